@@ -1,0 +1,10 @@
+pub mod Bytes
+pub mod Judging
+pub mod Onward
+pub mod Plan
+pub mod Rows
+pub mod Rules
+pub mod Scan
+pub mod Steps
+pub mod Tally
+pub mod Told

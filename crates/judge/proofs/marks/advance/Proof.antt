@@ -1,0 +1,39 @@
+-- `judge::marks::advance` meets its contract: an answer for each arm.
+use borrow.Author.Needs.{needs}
+use Rattle.judge.proofs.Rules.{rules}
+use Rattle.judge.specs.Reading
+use Rattle.judge.proofs.marks.advance.Statement.{statement}
+use Rattle.judge.proofs.marks.advance.Tie as tie
+
+add-t4 : tie.Need-add-t4
+add-t4 c = search needs
+
+add-t5 : tie.Need-add-t5
+add-t5 c = search needs
+
+add-t6 : tie.Need-add-t6
+add-t6 c = search needs
+
+returns : tie.Need-returns
+unfolding Reading.slotsAfter Reading.bridgesAfter
+returns c = rw (c .match .keys1)
+
+returns-2 : tie.Need-returns-2
+unfolding Reading.slotsAfter Reading.bridgesAfter
+returns-2 c = rw (c .match .keys2)
+
+returns-3 : tie.Need-returns-3
+unfolding Reading.slotsAfter Reading.bridgesAfter
+returns-3 c = rw (c .before .match .keys3)
+
+returns-4 : tie.Need-returns-4
+unfolding Reading.slotsAfter Reading.bridgesAfter
+returns-4 c = rw (c .before .before .match .keys4)
+
+returns-5 : tie.Need-returns-5
+unfolding Reading.slotsAfter Reading.bridgesAfter
+returns-5 c = search rules
+
+pub advance-spec : {M : Type 1} → statement M
+advance-spec =
+    tie.close (tie.spec add-t4 add-t5 add-t6 returns returns-2 returns-3 returns-4 returns-5)

@@ -1,0 +1,42 @@
+-- `judge::marks::read` meets its contract: what a step comes to, by its tests (`Steps`).
+use borrow.Author.Needs.{needs}
+use Rattle.judge.proofs.Steps.{steps}
+use Rattle.judge.proofs.marks.read.Statement.{statement}
+use Rattle.judge.proofs.marks.read.Tie as tie
+
+goes-with-requires : tie.Need-goes-with-requires
+goes-with-requires c κs = search needs
+
+returns : tie.Need-returns
+returns c = search steps depth 7
+
+may-follow-requires : tie.Need-may-follow-requires
+may-follow-requires c κs = search needs
+
+returns-2 : tie.Need-returns-2
+returns-2 c = search steps depth 7
+
+advance-requires : tie.Need-advance-requires
+advance-requires c κs = search needs
+
+returns-3 : tie.Need-returns-3
+returns-3 c = search steps depth 7
+
+returns-4 : tie.Need-returns-4
+returns-4 c = search steps depth 7
+
+returns-5 : tie.Need-returns-5
+returns-5 c = search steps depth 7
+
+pub read-spec : {M : Type 1} → statement M
+read-spec =
+    tie.close
+    (tie.spec
+    goes-with-requires
+    returns
+    may-follow-requires
+    returns-2
+    advance-requires
+    returns-3
+    returns-4
+    returns-5)

@@ -1,0 +1,70 @@
+-- `judge::settings::check` meets its contract: the rows are met in their order (`Rows`).
+use borrow.Author.Needs.{needs}
+use Rattle.judge.proofs.Rows.{rows}
+use Rattle.judge.specs.Refusals
+use Rattle.judge.proofs.settings.check.Statement.{statement}
+use Rattle.judge.proofs.settings.check.Tie as tie
+
+wrong-slots-requires : tie.Need-wrong-slots-requires
+wrong-slots-requires c κs = search needs
+
+returns : tie.Need-returns
+unfolding Refusals.refusal
+returns c = search rows depth 9
+
+wrong-other-requires : tie.Need-wrong-other-requires
+wrong-other-requires c κs = search needs
+
+returns-2 : tie.Need-returns-2
+unfolding Refusals.refusal
+returns-2 c = search rows depth 9
+
+wrong-length-requires : tie.Need-wrong-length-requires
+wrong-length-requires c κs = search needs
+
+returns-3 : tie.Need-returns-3
+unfolding Refusals.refusal
+returns-3 c = search rows depth 9
+
+wrong-bridges-requires : tie.Need-wrong-bridges-requires
+wrong-bridges-requires c κs = search needs
+
+returns-4 : tie.Need-returns-4
+unfolding Refusals.refusal
+returns-4 c = search rows depth 9
+
+wrong-counts-requires : tie.Need-wrong-counts-requires
+wrong-counts-requires c κs = search needs
+
+returns-5 : tie.Need-returns-5
+unfolding Refusals.refusal
+returns-5 c = search rows depth 9
+
+wrong-counts-requires-2 : tie.Need-wrong-counts-requires-2
+wrong-counts-requires-2 c κs = search needs
+
+returns-6 : tie.Need-returns-6
+unfolding Refusals.refusal
+returns-6 c = search rows depth 9
+
+returns-7 : tie.Need-returns-7
+unfolding Refusals.refusal
+returns-7 c = search rows depth 9
+
+pub check-spec : {M : Type 1} → statement M
+check-spec =
+    tie.close
+    (tie.spec
+    wrong-slots-requires
+    returns
+    wrong-other-requires
+    returns-2
+    wrong-length-requires
+    returns-3
+    wrong-bridges-requires
+    returns-4
+    wrong-counts-requires
+    returns-5
+    wrong-counts-requires-2
+    returns-6
+    returns-7)

@@ -1,0 +1,58 @@
+-- `judge::verdict::judge` meets its contract: what the judge says, by the tests on the way (`Judging`).
+use Prim.Native.Nat.{_≤_}
+use mathlib.Core.Path.{_≡_, sym, _∙_, ap}
+use borrow.Author.Needs.{needs}
+use lib.ListN.{length}
+use Rattle.judge.proofs.Judging.{judging}
+use Rattle.judge.proofs.Rows.{lengths}
+use Rattle.judge.specs.Refusals.{limit, checked}
+use Rattle.judge.proofs.verdict.judge.Statement.{statement}
+use Rattle.judge.proofs.verdict.judge.Tie as tie
+
+check-requires : tie.Need-check-requires
+check-requires c κs = search needs
+
+enum-known-checked : tie.Need-enum-known-checked
+enum-known-checked c = search needs
+
+returns : tie.Need-returns
+returns c = search judging depth 7
+
+enum-told : tie.Need-enum-told
+enum-told c = search needs
+
+passed : (c : tie.After-enum-told) → let args = c .before .before .before .before .args in (length (args .loads .now) ≡ length (args .marks .now)) × (length (args .marks .now) ≤ limit)
+passed c = lengths _ _ _ (sym (c .before .before .check .ensures) ∙ ap checked (c .enum-told .given .1))
+
+legal-requires : tie.Need-legal-requires
+legal-requires c κs = passed c
+
+returns-2 : tie.Need-returns-2
+returns-2 c = search judging depth 7
+
+count-requires : tie.Need-count-requires
+count-requires c κs = passed (c .before .before) .1
+
+returns-3 : tie.Need-returns-3
+returns-3 c = search judging depth 7
+
+returns-4 : tie.Need-returns-4
+returns-4 c = search judging depth 7
+
+returns-5 : tie.Need-returns-5
+returns-5 c = search judging depth 7
+
+pub judge-spec : {M : Type 1} → statement M
+judge-spec =
+    tie.close
+    (tie.spec
+    check-requires
+    enum-known-checked
+    returns
+    enum-told
+    legal-requires
+    returns-2
+    count-requires
+    returns-3
+    returns-4
+    returns-5)

@@ -1,0 +1,5 @@
+pub mod Rule
+pub mod Refusals
+pub mod Judgment
+pub mod Choice
+pub mod Reading

@@ -1,0 +1,76 @@
+-- The rule of plans, written from document 01. A plan is a list of marks, one byte per slot: 0 uncovered, 1 first slot of a
+-- window, 2 a later over slot of it, 3 a bridge ("A plan as marks"); a bridge, in document 01's term, is an under slot in a
+-- window. Loads and the threshold k are integers: every k is taken ("The rule, by source").
+use Prim.Native.Nat.{ℕ, suc}
+use mathlib.Core.Bool.{Bool, true, false, cond, not, _&&_, _||_}
+use mathlib.Core.List.{List, [], _∷_}
+use lib.Dec.{leb, eqb}
+use lib.IntN.{ℤ}
+use lib.ListN.{length}
+use lib.Signed.{ltZ}
+
+-- "From load ranges to windows": a slot is over when its load is greater than k, and under otherwise
+unfoldable pub over : (k load : ℤ) → Bool
+over k load = ltZ k load
+
+-- the byte m is one from a to b
+abbrev pub between : (a b m : ℕ) → Bool
+between a b m = leb a m && leb m b
+
+-- "A plan as marks", as all that follows up to `legal`: marks 1 and 2 go with over loads, 0 and 3 with under loads; no byte
+-- above 3 goes with any
+unfoldable pub goesWith : (over : Bool) (m : ℕ) → Bool
+goesWith true m = eqb m 1 || eqb m 2
+goesWith false m = eqb m 0 || eqb m 3
+
+-- each mark goes with its load, and there are as many of the one as of the other
+unfoldable pub agrees : ℤ → List ℤ → List ℕ → Bool
+agrees k [] [] = true
+agrees k [] (m ∷ ms) = false
+agrees k (x ∷ xs) [] = false
+agrees k (x ∷ xs) (m ∷ ms) = goesWith (over k x) m && agrees k xs ms
+
+-- mark 2 may follow 1, 2 or 3; mark 3 may follow 1, 2 or 3, never 0, and must not be followed by 0 or by 1; bytes above 3 are
+-- never legal
+unfoldable pub follows : (previous m : ℕ) → Bool
+follows p m = (between 0 1 m && between 0 2 p) || (between 2 3 m && between 1 3 p)
+
+-- each mark may follow the one before it (p stands before the first), and mark 3 must not be followed by the end
+unfoldable pub ordered : (p : ℕ) → List ℕ → Bool
+ordered p [] = not (eqb p 3)
+ordered p (m ∷ ms) = follows p m && ordered m ms
+
+-- the marks 2 and 3 with which a list begins: behind a mark 1, the rest of its window
+unfoldable pub rest : List ℕ → List ℕ
+rest [] = []
+rest (m ∷ ms) = cond (between 2 3 m) (m ∷ rest ms) []
+
+-- the windows that marks draw, each as its own marks: a mark 1 with the marks 2 and 3 right behind it
+unfoldable pub drawn : List ℕ → List (List ℕ)
+drawn [] = []
+drawn (m ∷ ms) = cond (eqb m 1) ((m ∷ rest ms) ∷ drawn ms) (drawn ms)
+
+-- how many of the marks pass a test
+unfoldable pub count : (ℕ → Bool) → List ℕ → ℕ
+count p [] = 0
+count p (m ∷ ms) = cond (p m) (suc (count p ms)) (count p ms)
+
+-- a window keeps len and h: it has at most len slots and holds at most h bridges ("The rule, by source")
+unfoldable pub keeps : (len h : ℕ) → List ℕ → Bool
+keeps len h window = leb (length window) len && leb (count (λ m. eqb m 3) window) h
+
+unfoldable pub every : (List ℕ → Bool) → List (List ℕ) → Bool
+every p [] = true
+every p (w ∷ ws) = p w && every p ws
+
+-- marks are legal for given loads when all this holds and each window so drawn keeps len and h. Slot 0 has mark 0 or 1, which
+-- is what may follow a mark 0
+unfoldable pub legal : (k : ℤ) (len h : ℕ) → List ℤ → List ℕ → Bool
+legal k len h loads marks = agrees k loads marks && ordered 0 marks && every (keeps len h) (drawn marks)
+
+-- the window count of marks, and their covered count, bridges included ("The rule, by source")
+unfoldable pub windows : List ℕ → ℕ
+windows marks = count (λ m. eqb m 1) marks
+
+unfoldable pub covered : List ℕ → ℕ
+covered marks = count (λ m. not (eqb m 0)) marks

@@ -1,0 +1,177 @@
+// Marks read from the left: whether they are legal for loads, and how much they cover.
+ghost use mathlib.Core.Path.{_≡_};
+ghost use Prim.Native.Nat.{_≤_, _<_};
+ghost use lib.ListN.{length};
+ghost use Rattle.judge.specs.Rule.{follows, goesWith, legal as Rule·legal, over as Rule·over, windows, covered};
+ghost use Rattle.judge.specs.Refusals.{limit};
+ghost use Rattle.judge.specs.Reading.{advanced, stepOf, countedOf};
+use crate::settings::Settings;
+
+// Where a reading stands: the mark before, 0 at the start, and the slots and bridges so far of the window that it lies in.
+pub struct Reading {
+    pub mark: u8,
+    pub slots: u16,
+    pub bridges: u16,
+}
+
+// One slot on, or the slot's mark breaks the rule.
+pub enum Step {
+    On(Reading),
+    Broken,
+}
+
+// How many windows marks draw, and how many slots they cover.
+pub struct Counts {
+    pub windows: u16,
+    pub covered: u16,
+}
+
+// The tests of one slot.
+fn over(k: i32, load: i32) -> bool
+    ensures { λ r. ⌜ r ≡ Rule·over k load ⌝ }
+{
+    load > k
+}
+
+fn goes_with(over: bool, mark: u8) -> bool
+    ensures { λ r. ⌜ r ≡ goesWith over mark ⌝ }
+{
+    if over {
+        mark == 1 || mark == 2
+    } else {
+        mark == 0 || mark == 3
+    }
+}
+
+fn may_follow(previous: u8, mark: u8) -> bool
+    ensures { λ r. ⌜ r ≡ follows previous mark ⌝ }
+{
+    match previous {
+        0 => match mark {
+            0..=1 => true,
+            2..=3 => false,
+            4..=255 => false,
+        },
+        1..=2 => match mark {
+            0..=1 => true,
+            2..=3 => true,
+            4..=255 => false,
+        },
+        3 => match mark {
+            0..=1 => false,
+            2..=3 => true,
+            4..=255 => false,
+        },
+        4..=255 => false,
+    }
+}
+
+// The reading behind a slot with this mark: a window's counts start where it opens.
+fn advance(at: Reading, mark: u8) -> Reading
+    requires { ⌜ (at .slots < limit) × (at .bridges < limit) ⌝ }
+    ensures { λ r. ⌜ r ≡ advanced at mark ⌝ }
+{
+    match mark {
+        0 => Reading {
+            mark,
+            slots: 0,
+            bridges: 0,
+        },
+        1 => Reading {
+            mark,
+            slots: 1,
+            bridges: 0,
+        },
+        2 => Reading {
+            mark,
+            slots: at.slots + 1,
+            bridges: at.bridges,
+        },
+        3 => Reading {
+            mark,
+            slots: at.slots + 1,
+            bridges: at.bridges + 1,
+        },
+        4..=255 => Reading {
+            mark,
+            slots: 0,
+            bridges: 0,
+        },
+    }
+}
+
+// Reads one more slot, with its mark and whether its load is over.
+fn read(settings: Settings, at: Reading, over: bool, mark: u8) -> Step
+    requires { ⌜ (at .slots < limit) × (at .bridges < limit) ⌝ }
+    ensures { λ r. ⌜ r ≡ stepOf (settings .len) (settings .h) at over mark ⌝ }
+{
+    if !goes_with(over, mark) {
+        return Step::Broken;
+    }
+    if !may_follow(at.mark, mark) {
+        return Step::Broken;
+    }
+    let next = advance(at, mark);
+    if next.slots > settings.len {
+        return Step::Broken;
+    }
+    if next.bridges > settings.h {
+        return Step::Broken;
+    }
+    Step::On(next)
+}
+
+// Reads the plan from slot 0 on, and stops where a mark breaks the rule.
+pub(crate) fn legal(settings: Settings, loads: &[i32], marks: &[u8]) -> bool
+    requires { ⌜ (length (now loads) ≡ length (now marks)) × (length (now marks) ≤ limit) ⌝ }
+    ensures { λ r. ⌜ r ≡ Rule·legal (settings .k) (settings .len) (settings .h) (now (loads .entry)) (now (marks .entry)) ⌝ }
+{
+    let mut at = Reading {
+        mark: 0,
+        slots: 0,
+        bridges: 0,
+    };
+    let mut i = 0;
+    while i < marks.len() {
+        let is_over = over(settings.k, loads[i]);
+        let Step::On(next) = read(settings, at, is_over, marks[i]) else {
+            return false;
+        };
+        at = next;
+        i += 1;
+    }
+    at.mark != 3
+}
+
+pub(crate) fn count(marks: &[u8]) -> Counts
+    requires { ⌜ length (now marks) ≤ limit ⌝ }
+    ensures { λ r. ⌜ (r .windows ≡ windows (now (marks .entry))) × (r .covered ≡ covered (now (marks .entry))) ⌝ }
+{
+    let mut seen = Counts {
+        windows: 0,
+        covered: 0,
+    };
+    let mut i = 0;
+    while i < marks.len() {
+        seen = counted(seen, marks[i]);
+        i += 1;
+    }
+    seen
+}
+
+fn counted(seen: Counts, mark: u8) -> Counts
+    requires { ⌜ (seen .windows < limit) × (seen .covered < limit) ⌝ }
+    ensures { λ r. ⌜ r ≡ countedOf seen mark ⌝ }
+{
+    match mark {
+        0 => seen,
+        1 => Counts {
+            windows: seen.windows + 1,
+            covered: seen.covered + 1,
+        },
+        2..=255 => Counts {
+            windows: seen.windows,
+            covered: seen.covered + 1,
+        },
+    }
+}

@@ -1,0 +1,40 @@
+// The judge, as document 01 calls it: whether a finished plan is allowed.
+ghost use mathlib.Core.Path.{_≡_};
+ghost use Rattle.judge.specs.Judgment.{judgment, told};
+use crate::marks::count;
+use crate::marks::legal;
+use crate::settings::Checked;
+use crate::settings::Refusal;
+use crate::settings::Settings;
+use crate::settings::check;
+
+// What the judge says of a plan.
+pub enum Verdict {
+    Yes { windows: u16, covered: u16 },
+    No,
+    Refused(Refusal),
+}
+
+// Says yes exactly when the marks are legal for the loads and keep both maximums, with their window and covered counts.
+pub fn judge(settings: Settings, loads: &[i32], marks: &[u8]) -> Verdict
+    ensures { λ r. ⌜ told r ≡ judgment settings (now (loads .entry)) (now (marks .entry)) ⌝ }
+{
+    let checked = check(settings, loads.len(), marks.len());
+    if let Checked::Refused(refusal) = checked {
+        return Verdict::Refused(refusal);
+    }
+    if !legal(settings, loads, marks) {
+        return Verdict::No;
+    }
+    let seen = count(marks);
+    if seen.windows > settings.windows.most {
+        return Verdict::No;
+    }
+    if seen.covered > settings.covered.most {
+        return Verdict::No;
+    }
+    Verdict::Yes {
+        windows: seen.windows,
+        covered: seen.covered,
+    }
+}

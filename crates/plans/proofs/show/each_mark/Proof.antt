@@ -1,0 +1,47 @@
+-- `plans::show::each_mark` is safe and ends: it counts up to the slice's length.
+use Prim.Native.Nat.{_-_, _≤_}
+use borrow.Author.Needs.{needs}
+use lib.ListN.{length}
+use Rattle.plans.proofs.show.each_mark.Statement.{statement}
+use Rattle.plans.proofs.show.each_mark.Tie as tie
+
+abbrev Inv-loop : tie.InvT-loop
+Inv-loop marks i₀ i = i ≤ length marks
+
+abbrev μ-loop : tie.MeasureT-loop
+μ-loop marks i₀ i = length marks - i
+
+loop-holds : tie.Need-loop-holds Inv-loop μ-loop
+loop-holds c = search needs
+
+shared-slice-read-mark : tie.Need-shared-slice-read-mark Inv-loop μ-loop
+shared-slice-read-mark c = search needs
+
+mark-requires : tie.Need-mark-requires Inv-loop μ-loop
+mark-requires c κs = search needs
+
+add-i : tie.Need-add-i Inv-loop μ-loop
+add-i c = search needs
+
+loop-less : tie.Need-loop-less Inv-loop μ-loop
+loop-less c = search needs
+
+loop-again : tie.Need-loop-again Inv-loop μ-loop
+loop-again c = search needs
+
+returns : tie.Need-returns Inv-loop μ-loop
+returns c = search needs
+
+pub each-mark-spec : {M : Type 1} → statement M
+each-mark-spec =
+    tie.close
+    (tie.spec
+    Inv-loop
+    μ-loop
+    loop-holds
+    shared-slice-read-mark
+    mark-requires
+    add-i
+    loop-less
+    loop-again
+    returns)
