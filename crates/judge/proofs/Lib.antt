@@ -1,7 +1,10 @@
+pub mod Allowing
 pub mod Bytes
 pub mod Judging
+pub mod Loads
 pub mod Onward
 pub mod Plan
+pub mod Ranges
 pub mod Rows
 pub mod Rules
 pub mod Scan

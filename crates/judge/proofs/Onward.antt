@@ -3,17 +3,16 @@
 -- `end` and `ended` what the end does.
 use Prim.Native.Nat.{ℕ, _+_, _≤_}
 use native.Mathlib.Omega.{arith}
-use mathlib.Core.Bool.{Bool, true, false, not, false≢true}
+use mathlib.Core.Bool.{Bool, true, not, _&&_, false≢true}
 use mathlib.Core.List.{List, [], _∷_}
 use mathlib.Core.Path.{_≡_, refl}
 use borrow.Author.Tests.{le-leb, leb-true}
 use lib.Dec.{leb, eqb}
-use lib.IntN.{ℤ}
 use lib.ListN.{length}
 use Rattle.judge.proofs.Bytes.{Kind, kind, uncovered, opening, later, bridge, above, never}
 use Rattle.judge.proofs.Rules.{both}
 use Rattle.judge.specs.Reading.{slotsAfter, bridgesAfter, advanced}
-use Rattle.judge.specs.Rule.{over, goesWith, agrees, follows, ordered, rest, drawn, count, keeps, every, legal}
+use Rattle.judge.specs.Rule.{agrees, follows, ordered, rest, drawn, count, keeps, every, legalBy}
 use Rattle.judge.specs.declared.marks.Reading.{Reading}
 
 -- how many bridges a window holds
@@ -57,21 +56,21 @@ module _ (len h : ℕ) where
     pub slots : at .slots ≤ len
     pub spare : at .bridges ≤ h
 
-  -- a slot's mark passes
-  pub record Passes (at : Reading) (o : Bool) (m : ℕ) : Type 0 where
-    pub goes : goesWith o m ≡ true
+  -- a slot's mark passes, where g says whether it goes with its slot
+  pub record Passes (at : Reading) (g : Bool) (m : ℕ) : Type 0 where
+    pub goes : g ≡ true
     pub follow : follows (at .mark) m ≡ true
     pub fits : Fits (advanced at m)
 
-module _ (k : ℤ) (len h : ℕ) where
+module _ {A : Type 0} (goes : A → ℕ → Bool) (len h : ℕ) where
   -- the windows drawn behind a reading's place keep len and h, and so does the present one with what is left of it
   pub record Room (at : Reading) (ms : List ℕ) : Type 0 where
     pub slots : at .slots + length (rest ms) ≤ len
     pub spare : at .bridges + bridges (rest ms) ≤ h
     pub kept : every (keeps len h) (drawn ms) ≡ true
 
-  pub record Onward (at : Reading) (xs : List ℤ) (ms : List ℕ) : Type 0 where
-    pub agree : agrees k xs ms ≡ true
+  pub record Onward (at : Reading) (xs : List A) (ms : List ℕ) : Type 0 where
+    pub agree : agrees goes xs ms ≡ true
     pub order : ordered (at .mark) ms ≡ true
     pub room : Room at ms
 
@@ -101,8 +100,8 @@ module _ (k : ℤ) (len h : ℕ) where
     room-join bridge f fits r = record { slots = omega arith; spare = omega arith; kept = r .kept }
     room-join (above a) f fits r = never _ a f
 
-    module _ (x : ℤ) (xs : List ℤ) (m : ℕ) where
-      pub split : Onward at (x ∷ xs) (m ∷ ms) → Passes len h at (over k x) m × Onward (advanced at m) xs ms
+    module _ (x : A) (xs : List A) (m : ℕ) where
+      pub split : Onward at (x ∷ xs) (m ∷ ms) → Passes len h at (goes x m) m × Onward (advanced at m) xs ms
       unfolding agrees ordered
       split o =
           let (goes, agree) = both _ _ (o .agree) in
@@ -110,7 +109,7 @@ module _ (k : ℤ) (len h : ℕ) where
           let (fits, room) = room-split (kind m) follow order (o .room) in
           (record { goes = goes; follow = follow; fits = fits }, record { agree = agree; order = order; room = room })
 
-      pub join : Fits len h at → Passes len h at (over k x) m → Onward (advanced at m) xs ms → Onward at (x ∷ xs) (m ∷ ms)
+      pub join : Fits len h at → Passes len h at (goes x m) m → Onward (advanced at m) xs ms → Onward at (x ∷ xs) (m ∷ ms)
       unfolding agrees ordered
       join f p o =
           record {
@@ -128,13 +127,24 @@ module _ (k : ℤ) (len h : ℕ) where
   ended at f e =
       record { agree = refl; order = e; room = record { slots = omega arith; spare = omega arith; kept = refl } }
 
-  pub begin : (xs : List ℤ) (ms : List ℕ) → legal k len h xs ms ≡ true → Onward start xs ms
-  unfolding legal
-  begin xs ms e =
-      let (front, kept) = both _ _ e in
-      let (agree, order) = both _ _ front in
-      record { agree = agree; order = order; room = clear ms (omega arith) order kept }
+  module _ (xs : List A) (ms : List ℕ) where
+    pub apart : legalBy goes len h xs ms ≡ true →
+        (agrees goes xs ms ≡ true) × (ordered 0 ms ≡ true) × (every (keeps len h) (drawn ms) ≡ true)
+    unfolding legalBy
+    apart e =
+        let (front, kept) = both (agrees goes xs ms && ordered 0 ms) _ e in
+        let (agree, order) = both (agrees goes xs ms) _ front in
+        (agree, order, kept)
 
-  pub whole : (xs : List ℤ) (ms : List ℕ) → Onward start xs ms → legal k len h xs ms ≡ true
-  unfolding legal
-  whole xs ms o = rw (o .agree, o .order) (o .room .kept)
+    pub together : agrees goes xs ms ≡ true → ordered 0 ms ≡ true → every (keeps len h) (drawn ms) ≡ true →
+        legalBy goes len h xs ms ≡ true
+    unfolding legalBy
+    together agree order kept = rw (agree, order) kept
+
+    pub begin : legalBy goes len h xs ms ≡ true → Onward start xs ms
+    begin e =
+        let (agree, order, kept) = apart e in
+        record { agree = agree; order = order; room = clear ms (omega arith) order kept }
+
+    pub whole : Onward start xs ms → legalBy goes len h xs ms ≡ true
+    whole o = together (o .agree) (o .order) (o .room .kept)

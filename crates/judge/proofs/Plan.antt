@@ -10,12 +10,12 @@ use mathlib.Core.Bool.{Bool, true, false, false≢true}
 use mathlib.Core.List.{List, [], _∷_}
 use mathlib.Core.Path.{_≡_, refl, sym, _∙_}
 use borrow.Author.Tests.{ne-eqb}
-use lib.IntN.{ℤ}
+use lib.ListN.{length}
 use Rattle.judge.proofs.Bytes.{Kind, kind, uncovered, opening, later, bridge, above, starts, goes-on, not-started, never}
 use Rattle.judge.proofs.Onward.{Fits, Passes, Onward, start, begin, whole, split, join, ended, clear}
 use Rattle.judge.proofs.Rules.{both}
 use Rattle.judge.specs.Reading.{slotsAfter, bridgesAfter, advanced}
-use Rattle.judge.specs.Rule.{over, goesWith, agrees, follows, ordered, legal}
+use Rattle.judge.specs.Rule.{agrees, follows, ordered, count, legalBy, covered}
 use Rattle.judge.specs.declared.marks.Reading.{Reading}
 
 -- outside a window, with uncovered slots still owed before the next; or in a window, with slots and bridges left, which may
@@ -30,12 +30,21 @@ module _ {A : Type 0} (May : ℕ → A → Type 0) (settle room h : ℕ) where
     skip : {q : ℕ} {x : A} {xs : List A} {ms : List ℕ} → May 0 x → Plan (out (q - 1)) xs ms → Plan (out q) (x ∷ xs) (0 ∷ ms)
     opens : {x : A} {xs : List A} {ms : List ℕ} → May 1 x → Plan (on true room h) xs ms → Plan (out 0) (x ∷ xs) (1 ∷ ms)
     close : {r b : ℕ} {xs : List A} {ms : List ℕ} → Plan (out settle) xs ms → Plan (on true r b) xs ms
-    more : {c : Bool} {r b : ℕ} {x : A} {xs : List A} {ms : List ℕ} → May 2 x → Plan (on true r b) xs ms → Plan (on c (suc r) b) (x ∷ xs) (2 ∷ ms)
-    bridges : {c : Bool} {r b : ℕ} {x : A} {xs : List A} {ms : List ℕ} → May 3 x → Plan (on false r b) xs ms → Plan (on c (suc r) (suc b)) (x ∷ xs) (3 ∷ ms)
+    more : {c : Bool} {r b : ℕ} {x : A} {xs : List A} {ms : List ℕ} →
+        May 2 x → Plan (on true r b) xs ms → Plan (on c (suc r) b) (x ∷ xs) (2 ∷ ms)
+    bridges : {c : Bool} {r b : ℕ} {x : A} {xs : List A} {ms : List ℕ} →
+        May 3 x → Plan (on false r b) xs ms → Plan (on c (suc r) (suc b)) (x ∷ xs) (3 ∷ ms)
 
--- a load may carry the marks that go with it
-abbrev pub Carries : ℤ → ℕ → ℤ → Type 0
-Carries k m x = goesWith (over k x) m ≡ true
+-- no more slots are covered than there are
+pub covered-le : {A : Type 0} {May : ℕ → A → Type 0} {settle room h : ℕ} {st : State} {xs : List A} {ms : List ℕ} →
+    Plan May settle room h st xs ms → covered ms ≤ length xs
+unfolding covered count
+covered-le done = omega arith
+covered-le (skip m p) = omega (arith, covered-le p)
+covered-le (opens m p) = omega (arith, covered-le p)
+covered-le (close p) = covered-le p
+covered-le (more m p) = omega (arith, covered-le p)
+covered-le (bridges m p) = omega (arith, covered-le p)
 
 -- the mark before, in a window that may close there or not
 data Last : Bool → ℕ → Type 0 where
@@ -74,25 +83,32 @@ reordered {p} (m ∷ ms) p₂ e = by (kind m) (both (follows 0 m) (ordered m ms)
     by bridge f = absurd (false≢true (not-started 0 3 (omega arith) (omega arith) ∙ f .0))
     by (above a) f = never 0 a (f .0)
 
-module _ (k : ℤ) (room h : ℕ) where
-  abbrev Loads : State → List ℤ → List ℕ → Type 0
-  Loads st xs ms = Plan (Carries k) 0 room h st xs ms
+module _ {A : Type 0} (goes : A → ℕ → Bool) (room h : ℕ) where
+  -- a slot may carry the marks that go with it
+  abbrev Goes : ℕ → A → Type 0
+  Goes m x = goes x m ≡ true
+
+  abbrev Marked : State → List A → List ℕ → Type 0
+  Marked st xs ms = Plan Goes 0 room h st xs ms
 
   abbrev Stand : Reading → State → Type 0
   Stand at st = Stands (suc room) h at st
 
-  module _ {x : ℤ} {xs : List ℤ} {ms : List ℕ} where
-    takes-over : {c : Bool} {r g : ℕ} (l : ℕ) → l + r ≡ suc room → l + 1 ≤ suc room → Carries k 2 x → ((r : ℕ) → l + 1 + r ≡ suc room → Loads (on true r g) xs ms) → Loads (on c r g) (x ∷ xs) (2 ∷ ms)
+  module _ {x : A} {xs : List A} {ms : List ℕ} where
+    takes-over : {c : Bool} {r g : ℕ} (l : ℕ) → l + r ≡ suc room → l + 1 ≤ suc room → Goes 2 x →
+        ((r : ℕ) → l + 1 + r ≡ suc room → Marked (on true r g) xs ms) → Marked (on c r g) (x ∷ xs) (2 ∷ ms)
     takes-over {r = zero} l e f m p = absurd (omega arith)
     takes-over {r = suc r} l e f m p = more m (p r (omega arith))
 
-    takes-bridge : {c : Bool} {r g : ℕ} (l b : ℕ) → l + r ≡ suc room → l + 1 ≤ suc room → b + g ≡ h → b + 1 ≤ h → Carries k 3 x → ((r g : ℕ) → l + 1 + r ≡ suc room → b + 1 + g ≡ h → Loads (on false r g) xs ms) → Loads (on c r g) (x ∷ xs) (3 ∷ ms)
+    takes-bridge : {c : Bool} {r g : ℕ} (l b : ℕ) → l + r ≡ suc room → l + 1 ≤ suc room → b + g ≡ h → b + 1 ≤ h → Goes 3 x →
+        ((r g : ℕ) → l + 1 + r ≡ suc room → b + 1 + g ≡ h → Marked (on false r g) xs ms) → Marked (on c r g) (x ∷ xs) (3 ∷ ms)
     takes-bridge {r = zero} l b e f u v m p = absurd (omega arith)
     takes-bridge {r = suc r} {g = zero} l b e f u v m p = absurd (omega arith)
     takes-bridge {r = suc r} {g = suc g} l b e f u v m p = bridges m (p r g (omega arith) (omega arith))
 
     -- one slot more, before what is left at the state where it stands
-    before : {m : ℕ} {at : Reading} {st : State} → Kind m → Stand at st → Passes (suc room) h at (over k x) m → ((st : State) → Stand (advanced at m) st → Loads st xs ms) → Loads st (x ∷ xs) (m ∷ ms)
+    before : {m : ℕ} {at : Reading} {st : State} → Kind m → Stand at st → Passes (suc room) h at (goes x m) m →
+        ((st : State) → Stand (advanced at m) st → Marked st xs ms) → Marked st (x ∷ xs) (m ∷ ms)
     unfolding follows slotsAfter bridgesAfter
     before uncovered (outside l b) p f = skip (p .goes) (f _ (outside (omega arith) (omega arith)))
     before uncovered (inside (over-slot p₁ p₂) l b) p f =
@@ -111,11 +127,13 @@ module _ (k : ℤ) (room h : ℕ) where
         takes-bridge _ _ l (p .fits .slots) b (p .fits .spare) (p .goes) (λ r g e u. f _ (inside a-bridge e u))
     before {at = at} (above a) s p f = never (at .mark) a (p .follow)
 
-    behind : {at : Reading} {st next : State} (m : ℕ) → Stand at st → Carries k m x → true ≡ follows (at .mark) m → Stand (advanced at m) next → (Stand (advanced at m) next → Onward k (suc room) h (advanced at m) xs ms) → Onward k (suc room) h at (x ∷ xs) (m ∷ ms)
+    behind : {at : Reading} {st next : State} (m : ℕ) → Stand at st → Goes m x → true ≡ follows (at .mark) m →
+        Stand (advanced at m) next → (Stand (advanced at m) next → Onward goes (suc room) h (advanced at m) xs ms) →
+        Onward goes (suc room) h at (x ∷ xs) (m ∷ ms)
     behind m s c f n o =
-        join k (suc room) h _ ms x xs m (stands→fits s) (record { goes = c; follow = sym f; fits = stands→fits n }) (o n)
+        join goes (suc room) h _ ms x xs m (stands→fits s) (record { goes = c; follow = sym f; fits = stands→fits n }) (o n)
 
-  to : {at : Reading} {st : State} (xs : List ℤ) (ms : List ℕ) → Stand at st → Onward k (suc room) h at xs ms → Loads st xs ms
+  to : {at : Reading} {st : State} (xs : List A) (ms : List ℕ) → Stand at st → Onward goes (suc room) h at xs ms → Marked st xs ms
   unfolding agrees ordered
   to [] [] (outside l b) o = done
   to [] [] (inside (over-slot p₁ p₂) l b) o = close done
@@ -123,21 +141,22 @@ module _ (k : ℤ) (room h : ℕ) where
   to [] (m ∷ ms) s o = absurd (false≢true (o .agree))
   to (x ∷ xs) [] s o = absurd (false≢true (o .agree))
   to (x ∷ xs) (m ∷ ms) s o =
-      let (p, left) = split k (suc room) h _ ms x xs m o in
+      let (p, left) = split goes (suc room) h _ ms x xs m o in
       before (kind m) s p (λ st n. to xs ms n left)
 
   -- a window that closes: what is left outside it
-  closes : {p l b : ℕ} (xs : List ℤ) (ms : List ℕ) → p ≤ 2 → Fits (suc room) h (record { mark = p; slots = l; bridges = b }) → Onward k (suc room) h start xs ms → Onward k (suc room) h (record { mark = p; slots = l; bridges = b }) xs ms
+  closes : {p l b : ℕ} (xs : List A) (ms : List ℕ) → p ≤ 2 → Fits (suc room) h (record { mark = p; slots = l; bridges = b }) →
+      Onward goes (suc room) h start xs ms → Onward goes (suc room) h (record { mark = p; slots = l; bridges = b }) xs ms
   closes xs ms p₂ f o =
       record {
         agree = o .agree;
         order = reordered ms p₂ (o .order);
-        room = clear k (suc room) h ms f (o .order) (o .room .kept);
+        room = clear goes (suc room) h ms f (o .order) (o .room .kept);
       }
 
-  from : {at : Reading} {st : State} {xs : List ℤ} {ms : List ℕ} → Loads st xs ms → Stand at st → Onward k (suc room) h at xs ms
+  from : {at : Reading} {st : State} {xs : List A} {ms : List ℕ} → Marked st xs ms → Stand at st → Onward goes (suc room) h at xs ms
   unfolding slotsAfter bridgesAfter
-  from done (outside l b) = ended k (suc room) h _ (omega arith) refl
+  from done (outside l b) = ended goes (suc room) h _ (omega arith) refl
   from (skip c q) (outside l b) =
       behind 0 (outside l b) c (starts 0 0 (omega arith) (omega arith)) (outside (omega arith) (omega arith)) (λ n. from q n)
   from (opens c q) (outside l b) =
@@ -149,8 +168,8 @@ module _ (k : ℤ) (room h : ℕ) where
   from (bridges c q) (inside p l b) =
       behind 3 (inside p l b) c (on-from p (omega arith) (omega arith)) (inside a-bridge (omega arith) (omega arith)) (λ n. from q n)
 
-  pub legal→plan : (xs : List ℤ) (ms : List ℕ) → legal k (suc room) h xs ms ≡ true → Loads (out 0) xs ms
-  legal→plan xs ms e = to xs ms (outside (omega arith) (omega arith)) (begin k (suc room) h xs ms e)
+  pub legal→plan : (xs : List A) (ms : List ℕ) → legalBy goes (suc room) h xs ms ≡ true → Marked (out 0) xs ms
+  legal→plan xs ms e = to xs ms (outside (omega arith) (omega arith)) (begin goes (suc room) h xs ms e)
 
-  pub plan→legal : (xs : List ℤ) (ms : List ℕ) → Loads (out 0) xs ms → legal k (suc room) h xs ms ≡ true
-  plan→legal xs ms p = whole k (suc room) h xs ms (from p (outside (omega arith) (omega arith)))
+  pub plan→legal : (xs : List A) (ms : List ℕ) → Marked (out 0) xs ms → legalBy goes (suc room) h xs ms ≡ true
+  plan→legal xs ms p = whole goes (suc room) h xs ms (from p (outside (omega arith) (omega arith)))

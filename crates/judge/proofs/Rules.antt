@@ -7,6 +7,7 @@ use mathlib.Core.Bool.{Bool, true, false, true≢false, false≢true, cond, _&&_
 use mathlib.Core.List.{List, _∷_}
 use mathlib.Core.Path.{_≡_, refl, sym}
 use borrow.Author.Tests.{lt-ltb, le-ltb, le-leb, lt-leb, eq-eqb, ne-eqb}
+use lib.Dec.{T}
 use lib.ListN.{length, drop, getD}
 use lib.Seq.{drop-cons}
 use mir.Facts.{toZ-ofZ}
@@ -19,6 +20,10 @@ pub or-false : (b : Bool) → (b || false) ≡ b
 or-false true = refl
 or-false false = refl
 
+pub or-true : (a : Bool) {b : Bool} → b ≡ true → (a || b) ≡ true
+or-true true e = refl
+or-true false e = e
+
 pub both : (a b : Bool) → (a && b) ≡ true → (a ≡ true) × (b ≡ true)
 both true b e = (refl, e)
 both false b e = absurd (false≢true e)
@@ -26,6 +31,10 @@ both false b e = absurd (false≢true e)
 pub neither : (a b : Bool) → (a || b) ≡ false → (a ≡ false) × (b ≡ false)
 neither true b e = absurd (true≢false e)
 neither false b e = (refl, e)
+
+pub holds : (b : Bool) → T b → b ≡ true
+holds true t = refl
+holds false t = absurd t
 
 pub same : (a b : Bool) → (a ≡ true → b ≡ true) → (b ≡ true → a ≡ true) → a ≡ b
 same true b f g = sym (f refl)

@@ -11,7 +11,7 @@ use Rattle.judge.proofs.Onward.{Fits, Passes, Onward, start, begin, who
 use Rattle.judge.proofs.Rules.{same, refuted, uncons, at-most}
 use Rattle.judge.proofs.Steps.{broken, taken}
 use Rattle.judge.specs.Reading.{slotsAfter, bridgesAfter, advanced, stepOf}
-use Rattle.judge.specs.Rule.{over, legal}
+use Rattle.judge.specs.Rule.{over, carries, legal}
 use Rattle.judge.specs.declared.marks.Reading.{Reading}
 use Rattle.judge.specs.declared.marks.Step.the-variants.{On, Broken}
 
@@ -29,12 +29,18 @@ module _ (k : ℤ) (len h : ℕ) (xs : List ℤ) (ms : List ℕ) where
     pub slots : at .slots ≤ i
     pub bridges : at .bridges ≤ i
     pub fits : Fits len h at
-    pub to : legal k len h xs ms ≡ true → Onward k len h at (drop i xs) (drop i ms)
-    pub from : Onward k len h at (drop i xs) (drop i ms) → legal k len h xs ms ≡ true
+    pub to : legal k len h xs ms ≡ true → Onward (carries k) len h at (drop i xs) (drop i ms)
+    pub from : Onward (carries k) len h at (drop i xs) (drop i ms) → legal k len h xs ms ≡ true
 
   pub placed : Left start 0
   placed =
-      record { slots = omega arith; bridges = omega arith; fits = omega arith; to = begin k len h xs ms; from = whole k len h xs ms }
+      record {
+        slots = omega arith;
+        bridges = omega arith;
+        fits = omega arith;
+        to = begin (carries k) len h xs ms;
+        from = whole (carries k) len h xs ms;
+      }
 
   module _ (at : Reading) (i : ℕ) (left : Left at i) where
     pub finished : length ms ≤ i → length xs ≡ length ms → not (eqb (at .mark) 3) ≡ legal k len h xs ms
@@ -44,8 +50,8 @@ module _ (k : ℤ) (len h : ℕ) (xs : List ℤ) (ms : List ℕ) where
         same
         _
         _
-        (λ q. left .from (rw (ex, em) (ended k len h at (left .fits) q)))
-        (λ q. end k len h at (rw (ex, em) at (left .to q)))
+        (λ q. left .from (rw (ex, em) (ended (carries k) len h at (left .fits) q)))
+        (λ q. end (carries k) len h at (rw (ex, em) at (left .to q)))
 
     module _ (hx : i < length xs) (hm : i < length ms) where
       abbrev x : ℤ
@@ -54,8 +60,9 @@ module _ (k : ℤ) (len h : ℕ) (xs : List ℤ) (ms : List ℕ) where
       abbrev m : ℕ
       m = getD ms i 0
 
-      opens : legal k len h xs ms ≡ true → Passes len h at (over k x) m × Onward k len h (advanced at m) (drop (i + 1) xs) (drop (i + 1) ms)
-      opens e = split k len h at _ x _ m (rw (uncons xs i (pos 0) hx, uncons ms i 0 hm) at (left .to e))
+      opens : legal k len h xs ms ≡ true →
+          Passes len h at (carries k x m) m × Onward (carries k) len h (advanced at m) (drop (i + 1) xs) (drop (i + 1) ms)
+      opens e = split (carries k) len h at _ x _ m (rw (uncons xs i (pos 0) hx, uncons ms i 0 hm) at (left .to e))
 
       pub stuck : stepOf len h at (over k x) m ≡ Broken → legal k len h xs ms ≡ false
       stuck e = refuted _ (λ q. broken len h _ _ _ (opens q .0) e)
@@ -69,5 +76,5 @@ module _ (k : ℤ) (len h : ℕ) (xs : List ℤ) (ms : List ℕ) where
             bridges = bridges-rise m (left .bridges);
             fits = p .fits;
             to = λ q. opens q .1;
-            from = λ o. left .from (rw (uncons xs i (pos 0) hx, uncons ms i 0 hm) (join k len h at _ x _ m (left .fits) p o));
+            from = λ o. left .from (rw (uncons xs i (pos 0) hx, uncons ms i 0 hm) (join (carries k) len h at _ x _ m (left .fits) p o));
           })

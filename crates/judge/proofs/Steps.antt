@@ -44,11 +44,11 @@ module _ (len h : ℕ) (at : Reading) (o : Bool) (m : ℕ) where
           le-leb (bridgesAfter (at .bridges) m) h (rw is at b),
         )
 
-  passed : Passes len h at o m → passes len h at o m ≡ true
+  passed : Passes len h at (goesWith o m) m → passes len h at o m ≡ true
   unfolding passes
   passed p = rw (p .goes, p .follow, le-leb _ _ (p .fits .slots), le-leb _ _ (p .fits .spare))
 
-  passing : passes len h at o m ≡ true → Passes len h at o m
+  passing : passes len h at o m ≡ true → Passes len h at (goesWith o m) m
   unfolding passes
   passing e =
       let (gfl, b) = both (goesWith o m && follows (at .mark) m && leb (slotsAfter (at .slots) m) len) _ e in
@@ -56,18 +56,18 @@ module _ (len h : ℕ) (at : Reading) (o : Bool) (m : ℕ) where
       let (g, f) = both (goesWith o m) _ gf in
       record { goes = g; follow = f; fits = record { slots = leb-true _ _ l; spare = leb-true _ _ b } }
 
-  pub broken : Passes len h at o m → stepOf len h at o m ≡ Broken → ⊥
+  pub broken : Passes len h at (goesWith o m) m → stepOf len h at o m ≡ Broken → ⊥
   unfolding stepOf
   broken p e =
       let t : passes len h at o m ≡ true = passed p in
       let z : _≡_ {A = ℕ} 0 1 = cc in
       omega arith
 
-  pub taken : (next : Reading) → stepOf len h at o m ≡ On next → Passes len h at o m × (advanced at m ≡ next)
+  pub taken : (next : Reading) → stepOf len h at o m ≡ On next → Passes len h at (goesWith o m) m × (advanced at m ≡ next)
   unfolding stepOf
   taken next e = by (passes len h at o m) refl e
     where
-      by : (b : Bool) → passes len h at o m ≡ b → cond b (On (advanced at m)) Broken ≡ On next → Passes len h at o m × (advanced at m ≡ next)
+      by : (b : Bool) → passes len h at o m ≡ b → cond b (On (advanced at m)) Broken ≡ On next → Passes len h at (goesWith o m) m × (advanced at m ≡ next)
       by true t e = (passing t, cc)
       by false t e = let z : _≡_ {A = ℕ} 0 1 = cc in absurd (omega arith)
 

@@ -1,4 +1,5 @@
 pub mod Rule
+pub mod Ranges
 pub mod Refusals
 pub mod Judgment
 pub mod Choice

@@ -23,12 +23,13 @@ unfoldable pub goesWith : (over : Bool) (m : ℕ) → Bool
 goesWith true m = eqb m 1 || eqb m 2
 goesWith false m = eqb m 0 || eqb m 3
 
--- each mark goes with its load, and there are as many of the one as of the other
-unfoldable pub agrees : ℤ → List ℤ → List ℕ → Bool
-agrees k [] [] = true
-agrees k [] (m ∷ ms) = false
-agrees k (x ∷ xs) [] = false
-agrees k (x ∷ xs) (m ∷ ms) = goesWith (over k x) m && agrees k xs ms
+-- each mark goes with its slot, and there are as many of the one as of the other. A slot may be of any type, with a test of the
+-- marks that go with it: a load (`legal`, below), or what a slot can be (Ranges)
+unfoldable pub agrees : {A : Type 0} → (A → ℕ → Bool) → List A → List ℕ → Bool
+agrees goes [] [] = true
+agrees goes [] (m ∷ ms) = false
+agrees goes (x ∷ xs) [] = false
+agrees goes (x ∷ xs) (m ∷ ms) = goes x m && agrees goes xs ms
 
 -- mark 2 may follow 1, 2 or 3; mark 3 may follow 1, 2 or 3, never 0, and must not be followed by 0 or by 1; bytes above 3 are
 -- never legal
@@ -63,10 +64,18 @@ unfoldable pub every : (List ℕ → Bool) → List (List ℕ) → Bool
 every p [] = true
 every p (w ∷ ws) = p w && every p ws
 
--- marks are legal for given loads when all this holds and each window so drawn keeps len and h. Slot 0 has mark 0 or 1, which
--- is what may follow a mark 0
-unfoldable pub legal : (k : ℤ) (len h : ℕ) → List ℤ → List ℕ → Bool
-legal k len h loads marks = agrees k loads marks && ordered 0 marks && every (keeps len h) (drawn marks)
+-- marks are legal when all this holds and each window so drawn keeps len and h. Slot 0 has mark 0 or 1, which is what may
+-- follow a mark 0
+unfoldable pub legalBy : {A : Type 0} → (A → ℕ → Bool) → (len h : ℕ) → List A → List ℕ → Bool
+legalBy goes len h slots marks = agrees goes slots marks && ordered 0 marks && every (keeps len h) (drawn marks)
+
+-- the marks that go with a load
+abbrev pub carries : (k load : ℤ) (m : ℕ) → Bool
+carries k load m = goesWith (over k load) m
+
+-- legal for given loads
+abbrev pub legal : (k : ℤ) (len h : ℕ) → List ℤ → List ℕ → Bool
+legal k len h loads marks = legalBy (carries k) len h loads marks
 
 -- the window count of marks, and their covered count, bridges included ("The rule, by source")
 unfoldable pub windows : List ℕ → ℕ

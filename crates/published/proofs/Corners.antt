@@ -1,0 +1,159 @@
+-- The four published definitions are corners of the rule.
+use Prim.Native.Nat.{ℕ, suc, _-_, _≤_, _<_}
+use native.Mathlib.Nat.{le-refl}
+use native.Mathlib.Omega.{arith}
+use mathlib.Core.List.{List}
+use mathlib.Core.Logic.{_↔_}
+use lib.IntN.{ℤ}
+use lib.ListN.{length, drop}
+use lib.Signed.{_<ℤ_}
+use Rattle.judge.proofs.Plan.{covered-le, legal→plan}
+use Rattle.judge.specs.Rule.{carries}
+use Rattle.published.proofs.Sets.{Within, _∈_, each, each-to, all, some, which}
+use Rattle.published.proofs.Slots.{From, from, all-over, each-over}
+use Rattle.published.proofs.Walk.{drawn}
+use Rattle.published.specs.Published.{Run, Holds, size, Some, sum, load, bridges, Window, Obeys}
+use Rattle.published.specs.Published.{Focus, SpringyFocus, WeightedFocus, WeightedSpringyFocus}
+
+module _ (X : List ℤ) (yc len h : ℕ) (k : ℤ) (zc : ℕ) (S : List Run) (o : Obeys k len h yc zc X S) where
+  -- other maximums
+  pub recount : {yc′ zc′ : ℕ} → length S ≤ yc′ → sum size S ≤ zc′ → Obeys k len h yc′ zc′ X S
+  recount number summed = record { set = o .set; cover = o .cover; kept = o .kept; number = number; summed = summed }
+
+  -- disjoint windows have no more slots than there are: they are drawn by marks, with a len of 1 or more
+  no-more : sum size S ≤ length X
+  no-more =
+      let wide : Obeys k (suc len) h yc zc X S = record {
+        set = o .set;
+        cover = o .cover;
+        kept = each-to
+            (Window k len h X)
+            (Window k (suc len) h X)
+            (λ s w. record { begins = w .begins; ends = w .ends; slots = omega (arith, w .slots); spare = w .spare })
+            S
+            (o .kept);
+        number = o .number;
+        summed = o .summed;
+      } in
+      let (ms, e, to, fro, ws, cs) = drawn k (suc len) h yc zc X S (omega arith) wide in
+      omega (arith, cs, covered-le (legal→plan (carries k) len h X ms e))
+
+  -- so a covered maximum of n has no force
+  pub without-force : Obeys k len h yc (length X) X S
+  without-force = recount (o .number) no-more
+
+-- with no bridges allowed, a slot is covered exactly when it is over
+module _ (X : List ℤ) (k : ℤ) (s : Run) (w : Within (length X) s) where
+  slots-from : From X (s .first) (drop (s .first) X)
+  slots-from = from X (s .first) (length X - s .first) (omega (arith, w))
+
+  pub no-bridges : ((j : ℕ) → Holds j s → k <ℤ load X j) → bridges k X s ≤ 0
+  no-bridges o = all-over k X (size s) slots-from (λ j lj jn. o j (omega arith, omega (arith, w)))
+
+  pub over-within : bridges k X s ≤ 0 → (j : ℕ) → Holds j s → k <ℤ load X j
+  over-within u j hs = each-over k X (size s) slots-from u j (hs .0) (omega (arith, w, hs)) (omega (arith, w, hs))
+
+module _ (X : List ℤ) (yc len : ℕ) (k : ℤ) (zc : ℕ) (S : List Run) where
+  pub weighted : WeightedFocus X yc len k zc S ↔ Obeys k len 0 yc zc X S
+  weighted = (to, from)
+    where
+      to : WeightedFocus X yc len k zc S → Obeys k len 0 yc zc X S
+      to d =
+          record {
+            set = d .set;
+            cover = λ l ln. d .c2 l ln .0;
+            kept = all (Window k len 0 X) S kept;
+            number = d .c1;
+            summed = d .c4;
+          }
+        where
+          kept : (s : Run) → s ∈ S → Window k len 0 X s
+          kept s m =
+              let w = each (Within (length X)) (d .set .0) m in
+              let over : (j : ℕ) → Holds j s → k <ℤ load X j = λ j hs. d .c2 j (omega (arith, w, hs)) .1 (some (Holds j) m hs) in
+              record {
+                begins = over (s .first) (omega (arith, w));
+                ends = over (s .last) (omega (arith, w));
+                slots = each (λ s. size s ≤ len) (d .c3) m;
+                spare = no-bridges X k s w over;
+              }
+
+      from : Obeys k len 0 yc zc X S → WeightedFocus X yc len k zc S
+      from o =
+          record {
+            set = o .set;
+            c1 = o .number;
+            c2 = λ l ln. (o .cover l ln, over l);
+            c3 = each-to (Window k len 0 X) _ (λ s w. w .slots) S (o .kept);
+            c4 = o .summed;
+          }
+        where
+          over : (l : ℕ) → Some (Holds l) S → k <ℤ load X l
+          over l e =
+              let (s, m, hs) = which (Holds l) S e in
+              over-within X k s (each (Within (length X)) (o .set .0) m) (each (Window k len 0 X) (o .kept) m .spare) l hs
+
+module _ (X : List ℤ) (yc len h : ℕ) (k : ℤ) (zc : ℕ) (S : List Run) where
+  abbrev Shape : Run → Type 0
+  Shape s = (size s ≤ len) × (k <ℤ load X (s .first)) × (k <ℤ load X (s .last))
+
+  pub weightedSpringy : WeightedSpringyFocus X yc len h k zc S ↔ Obeys k len h yc zc X S
+  weightedSpringy = (to, from)
+    where
+      to : WeightedSpringyFocus X yc len h k zc S → Obeys k len h yc zc X S
+      to d = record { set = d .set; cover = d .c2; kept = all (Window k len h X) S kept; number = d .c1; summed = d .c5 }
+        where
+          kept : (s : Run) → s ∈ S → Window k len h X s
+          kept s m =
+              let (slots, begins, ends) = each Shape (d .c4) m in
+              record { begins = begins; ends = ends; slots = slots; spare = each (λ s. bridges k X s ≤ h) (d .c3) m }
+
+      from : Obeys k len h yc zc X S → WeightedSpringyFocus X yc len h k zc S
+      from o =
+          record {
+            set = o .set;
+            c1 = o .number;
+            c2 = o .cover;
+            c3 = each-to (Window k len h X) _ (λ s w. w .spare) S (o .kept);
+            c4 = each-to (Window k len h X) Shape (λ s w. (w .slots, w .begins, w .ends)) S (o .kept);
+            c5 = o .summed;
+          }
+
+-- the other two have no weight, so that any covered maximum does, for a start the summed length
+pub focus : (X : List ℤ) (yc len : ℕ) (k : ℤ) (S : List Run) → Focus X yc len k S ↔ Obeys k len 0 yc (length X) X S
+focus X yc len k S = (to, from)
+  where
+    to : Focus X yc len k S → Obeys k len 0 yc (length X) X S
+    to d =
+        let weights : WeightedFocus X yc len k (sum size S) S = record {
+          set = d .set;
+          c1 = d .c1;
+          c2 = d .c2;
+          c3 = d .c3;
+          c4 = le-refl _;
+        } in
+        without-force X yc len 0 k _ S (weighted X yc len k _ S .0 weights)
+
+    from : Obeys k len 0 yc (length X) X S → Focus X yc len k S
+    from o = let d = weighted X yc len k _ S .1 o in record { set = d .set; c1 = d .c1; c2 = d .c2; c3 = d .c3 }
+
+pub springy : (X : List ℤ) (yc len h : ℕ) (k : ℤ) (S : List Run) →
+    SpringyFocus X yc len h k S ↔ Obeys k len h yc (length X) X S
+springy X yc len h k S = (to, from)
+  where
+    to : SpringyFocus X yc len h k S → Obeys k len h yc (length X) X S
+    to d =
+        let weights : WeightedSpringyFocus X yc len h k (sum size S) S = record {
+          set = d .set;
+          c1 = d .c1;
+          c2 = d .c2;
+          c3 = d .c4;
+          c4 = d .c3;
+          c5 = le-refl _;
+        } in
+        without-force X yc len h k _ S (weightedSpringy X yc len h k _ S .0 weights)
+
+    from : Obeys k len h yc (length X) X S → SpringyFocus X yc len h k S
+    from o =
+        let d = weightedSpringy X yc len h k _ S .1 o in
+        record { set = d .set; c1 = d .c1; c2 = d .c2; c3 = d .c4; c4 = d .c3 }

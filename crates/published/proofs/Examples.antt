@@ -1,0 +1,60 @@
+-- Two worked examples of the papers, as instances.
+use Prim.Native.Nat.{ℕ, _+_, _-_, _≤_, _<_}
+use native.Mathlib.Omega.{arith}
+use mathlib.Core.List.{List, [], _∷_, map}
+use mathlib.Core.Path.{refl, sym, subst}
+use lib.IntN.{ℤ, pos}
+use lib.Signed.{ltZ-yes, _<ℤ_}
+use Rattle.judge.specs.Rule.{over, goesWith, agrees, follows, ordered, rest, drawn, count, keeps, every, legalBy, windows, covered}
+use Rattle.published.proofs.Corners.{without-force, focus, weighted}
+use Rattle.published.proofs.Draws.{draws}
+use Rattle.published.proofs.Sets.{_∈_, Within, Apart, each, into, which, meet, fewer}
+use Rattle.published.specs.Published.{Run, Holds, size, load, Focus, WeightedFocus, Sequences, runs}
+
+-- [i, .., j]
+abbrev run : ℕ → ℕ → Run
+run i j = record { first = i; last = j }
+
+-- 000, Examples 2 and 4 (Table 1): WeightedFocus(X, [2, 2], 5, 0, [7, 7]) by the set of [0, .., 3] and [5, .., 7]
+pub table-1 : WeightedFocus (map pos (1 ∷ 1 ∷ 1 ∷ 1 ∷ 0 ∷ 1 ∷ 1 ∷ 1 ∷ [])) 2 5 (pos 0) 7 (run 0 3 ∷ run 5 7 ∷ [])
+unfolding over goesWith agrees follows ordered rest drawn count keeps every legalBy windows covered runs
+table-1 = weighted _ _ _ _ _ _ .1 (draws (pos 0) 5 0 _ (1 ∷ 2 ∷ 2 ∷ 2 ∷ 0 ∷ 1 ∷ 2 ∷ 2 ∷ []) (omega arith) refl .0)
+
+-- 002, Example 2: X = ⟨1, 3, 1, 0, 1, 0⟩
+abbrev X : List ℤ
+X = map pos (1 ∷ 3 ∷ 1 ∷ 0 ∷ 1 ∷ 0 ∷ [])
+
+-- Focus(X, 2, 6, 0) is satisfied, by ⟨x0, x1, x2⟩ and ⟨x4⟩
+pub satisfied : Focus X 2 6 (pos 0) (run 0 2 ∷ run 4 4 ∷ [])
+unfolding over goesWith agrees follows ordered rest drawn count keeps every legalBy windows covered runs
+satisfied =
+    let o = draws (pos 0) 6 0 X (1 ∷ 2 ∷ 2 ∷ 0 ∷ 1 ∷ 0 ∷ []) (omega arith) refl .0 in
+    focus _ _ _ _ _ .1 (without-force _ _ _ _ _ _ _ o)
+
+-- Focus(X, 2, 2, 0) is violated: no two of x0, x2 and x4 are in one sequence of at most 2
+pub violated : (S : List Run) → Focus X 2 2 (pos 0) S → ⊥
+violated S d =
+    let (a, am, ha) = at 0 (omega arith) (ltZ-yes tt) in
+    let (b, bm, hb) = at 2 (omega arith) (ltZ-yes tt) in
+    let (c, cm, hc) = at 4 (omega arith) (ltZ-yes tt) in
+    let three : Sequences 6 (a ∷ b ∷ c ∷ []) = (
+      (within am, (within bm, (within cm, tt))),
+      (
+        (apart 0 2 (omega arith) am bm ha hb, (apart 0 4 (omega arith) am cm ha hc, tt)),
+        ((apart 2 4 (omega arith) bm cm hb hc, tt), (tt, tt)),
+      ),
+    ) in
+    let more = fewer 6 (a ∷ b ∷ c ∷ []) S three (into am (into bm (into cm (λ t m. elim m [ ])))) in
+    omega (arith, more, d .c1)
+  where
+    at : (l : ℕ) → l < 6 → pos 0 <ℤ load X l → (t : Run) × (t ∈ S) × Holds l t
+    at l h o = which (Holds l) S (d .c2 l h .0 o)
+
+    within : {t : Run} → t ∈ S → Within 6 t
+    within m = each (Within 6) (d .set .0) m
+
+    apart : {t u : Run} (i j : ℕ) → i + 2 ≤ j → t ∈ S → u ∈ S → Holds i t → Holds j u → Apart t u
+    apart i j h tm um ht hu l hl hl′ =
+        let e = meet l (d .set .1) tm um hl hl′ in
+        let ku = subst (λ u. Holds j u) (sym e) hu in
+        omega (arith, ht, ku, each (λ s. size s ≤ 2) (d .c3) tm)

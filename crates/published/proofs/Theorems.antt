@@ -1,0 +1,54 @@
+-- What specs/Published.antt states, proved.
+use Prim.Native.Nat.{ℕ, _≤_}
+use native.Mathlib.Omega.{arith}
+use mathlib.Core.Bool.{true}
+use mathlib.Core.List.{List}
+use mathlib.Core.Logic.{_↔_}
+use mathlib.Core.Path.{_≡_}
+use lib.IntN.{ℤ}
+use Rattle.judge.proofs.Allowing.{Allowed, allowing}
+use Rattle.judge.proofs.Ranges.{by-classes}
+use Rattle.judge.specs.Judgment.{allowed}
+use Rattle.judge.specs.declared.settings.Settings.{Settings}
+use Rattle.published.proofs.Corners.{recount, focus, springy, weighted, weightedSpringy}
+use Rattle.published.proofs.Draws.{draws}
+use Rattle.published.proofs.Walk.{drawn}
+use Rattle.published.specs.Published.{Run, Obeys, runs, Theorems}
+
+-- some windows, within the maximums of the settings
+abbrev Windows : Settings → List ℤ → Type 0
+Windows s X = (S : List Run) × Obeys (s .k) (s .len) (s .h) (s .windows .most) (s .covered .most) X S
+
+exist : (s : Settings) (X : List ℤ) → 1 ≤ s .len → Windows s X ↔ ((ms : List ℕ) × (allowed s X ms ≡ true))
+exist s X one = (to, from)
+  where
+    to : Windows s X → (ms : List ℕ) × (allowed s X ms ≡ true)
+    to (S, o) =
+        let (ms, e, into, onto, number, summed) = drawn (s .k) (s .len) (s .h) _ _ X S one o in
+        let a : Allowed s X ms = record {
+          in-rule = e;
+          windows-fit = omega (arith, number, o .number);
+          covered-fit = omega (arith, summed, o .summed);
+        } in
+        (ms, allowing .1 a)
+
+    from : (ms : List ℕ) × (allowed s X ms ≡ true) → Windows s X
+    from (ms, e) =
+        let a : Allowed s X ms = allowing .0 e in
+        let (o, number, summed) = draws (s .k) (s .len) (s .h) X ms one (a .in-rule) in
+        (runs 0 ms, recount X _ _ _ _ _ _ o (omega (arith, number, a .windows-fit)) (omega (arith, summed, a .covered-fit)))
+
+pub theorems : Theorems
+theorems =
+    record {
+      corners = λ X yc len h k zc S. record {
+        focus = focus X yc len k S;
+        springy = springy X yc len h k S;
+        weighted = weighted X yc len k zc S;
+        weightedSpringy = weightedSpringy X yc len h k zc S;
+      };
+      draws = draws;
+      drawn = drawn;
+      exist = exist;
+      classes = by-classes;
+    }

@@ -1,0 +1,150 @@
+-- The published definitions, the rule on windows, and what both have to do with legal marks. Documents 000 and 001 give the
+-- four definitions, 002 the first of them again. X = [x₀, .., xₙ₋₁] stands for an instantiation: a list of loads.
+use Prim.Native.Nat.{ℕ, suc, _+_, _-_, _≤_, _<_}
+use mathlib.Core.Bool.{true, cond}
+use mathlib.Core.List.{List, [], _∷_, map}
+use mathlib.Core.Logic.{_⊎_, _↔_}
+use mathlib.Core.Path.{_≡_}
+use lib.Dec.{eqb}
+use lib.IntN.{ℤ, pos}
+use lib.ListN.{length, getD, take, drop}
+use lib.Signed.{_<ℤ_, leZ}
+use Rattle.judge.specs.Judgment.{allowed}
+use Rattle.judge.specs.Ranges.{Range, Proper, LegalFor, classOf, allows}
+use Rattle.judge.specs.Rule.{rest, legal, legalBy, windows, covered}
+use Rattle.judge.specs.declared.settings.Settings.{Settings}
+
+-- a sequence of indices, s = [i, i + 1, .., j]
+pub record Run : Type 0 where
+  pub first : ℕ
+  pub last : ℕ
+
+-- l ∈ s
+abbrev pub Holds : (l : ℕ) → Run → Type 0
+Holds l s = (s .first ≤ l) × (l ≤ s .last)
+
+-- |s| = j - i + 1
+abbrev pub size : Run → ℕ
+size s = suc (s .last) - s .first
+
+-- for each s in S; for some s in S; the sum over all s in S
+abbrev pub Each : (Run → Type 0) → List Run → Type 0
+Each P [] = Unit
+Each P (s ∷ S) = P s × Each P S
+
+abbrev pub Some : (Run → Type 0) → List Run → Type 0
+Some P [] = ⊥
+Some P (s ∷ S) = P s ⊎ Some P S
+
+abbrev pub sum : (Run → ℕ) → List Run → ℕ
+sum f [] = 0
+sum f (s ∷ S) = f s + sum f S
+
+infix 4 _⊆_
+abbrev pub _⊆_ : List Run → List Run → Type 0
+S ⊆ T = Each (λ s. Some (λ t. t ≡ s) T) S
+
+-- no index is in two sequences of S
+abbrev pub Disjoint : List Run → Type 0
+Disjoint [] = Unit
+Disjoint (s ∷ S) = Each (λ t. (l : ℕ) → Holds l s → Holds l t → ⊥) S × Disjoint S
+
+-- A set of disjoint sequences of indices with 0 ≤ i ≤ j < n, as a list in any order. Each has an index, which no other one in
+-- the list has, so that none is there twice: the length of the list is the size of the set (proofs/Sets.antt, `sets`).
+abbrev pub Sequences : (n : ℕ) → List Run → Type 0
+Sequences n S = Each (λ s. (s .first ≤ s .last) × (s .last < n)) S × Disjoint S
+
+-- xₗ
+abbrev pub load : List ℤ → ℕ → ℤ
+load X l = getD X l (pos 0)
+
+-- how many loads are at most k, and |{l ∈ s, xₗ ≤ k}|
+unfoldable pub unders : ℤ → List ℤ → ℕ
+unders k [] = 0
+unders k (x ∷ xs) = cond (leZ x k) (suc (unders k xs)) (unders k xs)
+
+abbrev pub bridges : ℤ → List ℤ → Run → ℕ
+bridges k X s = unders k (take (size s) (drop (s .first) X))
+
+-- The four definitions; S is the set that has to exist. Conditions are numbered as printed. The side conditions printed before
+-- them are left out: 1 ≤ len ≤ |X|; 0 ≤ h < len - 1 (Definition 2), 0 < h < len - 1 (6); in 002 also 0 ≤ k and 0 ≤ yc ≤ |X|.
+
+-- Definition 1 of 000, 001 and 002; in 002 condition (3) is 1 ≤ |s| ≤ len, and every s has 1 ≤ |s|
+pub record Focus (X : List ℤ) (yc len : ℕ) (k : ℤ) (S : List Run) : Type 0 where
+  pub set : Sequences (length X) S
+  pub c1 : length S ≤ yc
+  pub c2 : (l : ℕ) → l < length X → (k <ℤ load X l) ↔ Some (Holds l) S
+  pub c3 : Each (λ s. size s ≤ len) S
+
+-- Definition 2
+pub record SpringyFocus (X : List ℤ) (yc len h : ℕ) (k : ℤ) (S : List Run) : Type 0 where
+  pub set : Sequences (length X) S
+  pub c1 : length S ≤ yc
+  pub c2 : (l : ℕ) → l < length X → k <ℤ load X l → Some (Holds l) S
+  pub c3 : Each (λ s. (size s ≤ len) × (k <ℤ load X (s .first)) × (k <ℤ load X (s .last))) S
+  pub c4 : Each (λ s. bridges k X s ≤ h) S
+
+-- Definition 4
+pub record WeightedFocus (X : List ℤ) (yc len : ℕ) (k : ℤ) (zc : ℕ) (S : List Run) : Type 0 where
+  pub set : Sequences (length X) S
+  pub c1 : length S ≤ yc
+  pub c2 : (l : ℕ) → l < length X → (k <ℤ load X l) ↔ Some (Holds l) S
+  pub c3 : Each (λ s. size s ≤ len) S
+  pub c4 : sum size S ≤ zc
+
+-- Definition 6
+pub record WeightedSpringyFocus (X : List ℤ) (yc len h : ℕ) (k : ℤ) (zc : ℕ) (S : List Run) : Type 0 where
+  pub set : Sequences (length X) S
+  pub c1 : length S ≤ yc
+  pub c2 : (l : ℕ) → l < length X → k <ℤ load X l → Some (Holds l) S
+  pub c3 : Each (λ s. bridges k X s ≤ h) S
+  pub c4 : Each (λ s. (size s ≤ len) × (k <ℤ load X (s .first)) × (k <ℤ load X (s .last))) S
+  pub c5 : sum size S ≤ zc
+
+-- The rule on windows (document 01, "The rule, by source"). A window begins and ends with an over slot, has at most len slots,
+-- and holds at most h under slots.
+pub record Window (k : ℤ) (len h : ℕ) (X : List ℤ) (s : Run) : Type 0 where
+  pub begins : k <ℤ load X (s .first)
+  pub ends : k <ℤ load X (s .last)
+  pub slots : size s ≤ len
+  pub spare : bridges k X s ≤ h
+
+-- A window is a run of consecutive slots; windows share no slot and may touch; every over slot lies in a window; the number of
+-- windows is at most the window count, their summed length, bridges included, at most the covered count.
+pub record Obeys (k : ℤ) (len h mostWindows mostCovered : ℕ) (X : List ℤ) (S : List Run) : Type 0 where
+  pub set : Sequences (length X) S
+  pub cover : (l : ℕ) → l < length X → k <ℤ load X l → Some (Holds l) S
+  pub kept : Each (Window k len h X) S
+  pub number : length S ≤ mostWindows
+  pub summed : sum size S ≤ mostCovered
+
+-- the windows that marks draw from slot l on: a mark 1 with the marks 2 and 3 right behind it
+unfoldable pub runs : (l : ℕ) → List ℕ → List Run
+runs l [] = []
+runs l (m ∷ ms) = cond (eqb m 1) (record { first = l; last = l + length (rest ms) } ∷ runs (suc l) ms) (runs (suc l) ms)
+
+-- The four definitions are corners of the rule. No side condition is needed: every k is taken, h = 0 with len = 1 too.
+pub record Corners (X : List ℤ) (yc len h : ℕ) (k : ℤ) (zc : ℕ) (S : List Run) : Type 0 where
+  pub focus : Focus X yc len k S ↔ Obeys k len 0 yc (length X) X S
+  pub springy : SpringyFocus X yc len h k S ↔ Obeys k len h yc (length X) X S
+  pub weighted : WeightedFocus X yc len k zc S ↔ Obeys k len 0 yc zc X S
+  pub weightedSpringy : WeightedSpringyFocus X yc len h k zc S ↔ Obeys k len h yc zc X S
+
+-- What is proved (proofs/Theorems.antt). Of the side conditions, what relates marks and windows needs 1 ≤ len.
+pub record Theorems : Type 0 where
+  pub corners : (X : List ℤ) (yc len h : ℕ) (k : ℤ) (zc : ℕ) (S : List Run) → Corners X yc len h k zc S
+  -- legal marks draw windows that obey the rule, as many as there are marks 1, with as many slots as marks other than 0
+  pub draws : (k : ℤ) (len h : ℕ) (X : List ℤ) (ms : List ℕ) → 1 ≤ len → legal k len h X ms ≡ true →
+      Obeys k len h (windows ms) (covered ms) X (runs 0 ms)
+      × (length (runs 0 ms) ≡ windows ms) × (sum size (runs 0 ms) ≡ covered ms)
+  -- windows that obey the rule are drawn by legal marks, with no other window and no other count
+  pub drawn : (k : ℤ) (len h w c : ℕ) (X : List ℤ) (S : List Run) → 1 ≤ len → Obeys k len h w c X S →
+      (ms : List ℕ) × (legal k len h X ms ≡ true)
+      × (runs 0 ms ⊆ S) × (S ⊆ runs 0 ms) × (windows ms ≡ length S) × (covered ms ≡ sum size S)
+  -- windows within the maximums exist exactly where the judge says yes to some marks, if it refuses nothing
+  pub exist : (s : Settings) (X : List ℤ) → 1 ≤ s .len →
+      ((S : List Run) × Obeys (s .k) (s .len) (s .h) (s .windows .most) (s .covered .most) X S)
+      ↔ ((ms : List ℕ) × (allowed s X ms ≡ true))
+  -- marks are legal for ranges exactly when they are legal for what each slot can be: under, over or both
+  pub classes : (k : ℤ) (len h : ℕ) (ranges : List Range) (ms : List ℕ) → Proper ranges →
+      LegalFor k len h ranges ms ↔ (legalBy allows len h (map (classOf k) ranges) ms ≡ true)
