@@ -2,7 +2,9 @@ pub mod Allowing
 pub mod Bytes
 pub mod Judging
 pub mod Loads
+pub mod Loosening
 pub mod Onward
+pub mod Passing
 pub mod Plan
 pub mod Ranges
 pub mod Rows

@@ -1,11 +1,11 @@
 -- The rule, slot by slot: what it asks of the marks behind a reading's place, with the present window's slots and bridges so
 -- far. `begin` and `whole` say that this is the rule itself at the start of a plan, `split` and `join` what one more slot does,
 -- `end` and `ended` what the end does.
-use Prim.Native.Nat.{ℕ, _+_, _≤_}
+use Prim.Native.Nat.{ℕ, suc, _+_, _≤_}
 use native.Mathlib.Omega.{arith}
 use mathlib.Core.Bool.{Bool, true, not, _&&_, false≢true}
 use mathlib.Core.List.{List, [], _∷_}
-use mathlib.Core.Path.{_≡_, refl}
+use mathlib.Core.Path.{_≡_, refl, ap}
 use borrow.Author.Tests.{le-leb, leb-true}
 use lib.Dec.{leb, eqb}
 use lib.ListN.{length}
@@ -148,3 +148,14 @@ module _ {A : Type 0} (goes : A → ℕ → Bool) (len h : ℕ) where
 
     pub whole : Onward start xs ms → legalBy goes len h xs ms ≡ true
     whole o = together (o .agree) (o .order) (o .room .kept)
+
+  -- there are as many marks as slots
+  as-many : (xs : List A) (ms : List ℕ) → agrees goes xs ms ≡ true → length ms ≡ length xs
+  unfolding agrees
+  as-many [] [] e = refl
+  as-many [] (m ∷ ms) e = absurd (false≢true e)
+  as-many (x ∷ xs) [] e = absurd (false≢true e)
+  as-many (x ∷ xs) (m ∷ ms) e = ap suc (as-many xs ms (both (goes x m) _ e .1))
+
+  pub as-long : (xs : List A) (ms : List ℕ) → legalBy goes len h xs ms ≡ true → length ms ≡ length xs
+  as-long xs ms e = as-many xs ms (apart xs ms e .0)

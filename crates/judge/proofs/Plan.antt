@@ -10,12 +10,11 @@ use mathlib.Core.Bool.{Bool, true, false, false≢true}
 use mathlib.Core.List.{List, [], _∷_}
 use mathlib.Core.Path.{_≡_, refl, sym, _∙_}
 use borrow.Author.Tests.{ne-eqb}
-use lib.ListN.{length}
 use Rattle.judge.proofs.Bytes.{Kind, kind, uncovered, opening, later, bridge, above, starts, goes-on, not-started, never}
 use Rattle.judge.proofs.Onward.{Fits, Passes, Onward, start, begin, whole, split, join, ended, clear}
 use Rattle.judge.proofs.Rules.{both}
 use Rattle.judge.specs.Reading.{slotsAfter, bridgesAfter, advanced}
-use Rattle.judge.specs.Rule.{agrees, follows, ordered, count, legalBy, covered}
+use Rattle.judge.specs.Rule.{agrees, follows, ordered, legalBy}
 use Rattle.judge.specs.declared.marks.Reading.{Reading}
 
 -- outside a window, with uncovered slots still owed before the next; or in a window, with slots and bridges left, which may
@@ -34,17 +33,6 @@ module _ {A : Type 0} (May : ℕ → A → Type 0) (settle room h : ℕ) where
         May 2 x → Plan (on true r b) xs ms → Plan (on c (suc r) b) (x ∷ xs) (2 ∷ ms)
     bridges : {c : Bool} {r b : ℕ} {x : A} {xs : List A} {ms : List ℕ} →
         May 3 x → Plan (on false r b) xs ms → Plan (on c (suc r) (suc b)) (x ∷ xs) (3 ∷ ms)
-
--- no more slots are covered than there are
-pub covered-le : {A : Type 0} {May : ℕ → A → Type 0} {settle room h : ℕ} {st : State} {xs : List A} {ms : List ℕ} →
-    Plan May settle room h st xs ms → covered ms ≤ length xs
-unfolding covered count
-covered-le done = omega arith
-covered-le (skip m p) = omega (arith, covered-le p)
-covered-le (opens m p) = omega (arith, covered-le p)
-covered-le (close p) = covered-le p
-covered-le (more m p) = omega (arith, covered-le p)
-covered-le (bridges m p) = omega (arith, covered-le p)
 
 -- the mark before, in a window that may close there or not
 data Last : Bool → ℕ → Type 0 where

@@ -1,12 +1,13 @@
--- A count of marks kept slot by slot: before slot i it is n, and what is left adds the rest.
+-- Counts of marks: one kept slot by slot, which is n before slot i where what is left adds the rest; and how large they get.
 use Prim.Native.Nat.{ℕ, suc, _+_, _≤_, _<_}
 use native.Mathlib.Omega.{arith}
-use mathlib.Core.Bool.{Bool, true, false, cond}
-use mathlib.Core.List.{List}
+use mathlib.Core.Bool.{Bool, true, false, cond, not}
+use mathlib.Core.List.{List, [], _∷_}
 use mathlib.Core.Path.{_≡_}
+use lib.Dec.{eqb}
 use lib.ListN.{length, drop, getD, drop-of-length-le}
-use Rattle.judge.proofs.Rules.{uncons}
-use Rattle.judge.specs.Rule.{count}
+use Rattle.judge.proofs.Rules.{uncons, at-most}
+use Rattle.judge.specs.Rule.{count, windows, covered}
 
 module _ (p : ℕ → Bool) (ms : List ℕ) where
   pub record Tally (i n : ℕ) : Type 0 where
@@ -27,3 +28,17 @@ module _ (p : ℕ → Bool) (ms : List ℕ) where
   pub all : (i n : ℕ) → length ms ≤ i → Tally i n → n ≡ count p ms
   unfolding count
   all i n h t = let e : count p (drop i ms) ≡ 0 = rw (drop-of-length-le ms h) in omega arith
+
+-- no more marks are counted than there are
+count-le : (p : ℕ → Bool) (ms : List ℕ) → count p ms ≤ length ms
+unfolding count
+count-le p [] = omega arith
+count-le p (m ∷ ms) = let e = count-le p ms in at-most (p m) (suc (count p ms)) (count p ms) (omega (arith, e)) (omega (arith, e))
+
+pub windows-le : (ms : List ℕ) → windows ms ≤ length ms
+unfolding windows
+windows-le ms = count-le (λ m. eqb m 1) ms
+
+pub covered-le : (ms : List ℕ) → covered ms ≤ length ms
+unfolding covered
+covered-le ms = count-le (λ m. not (eqb m 0)) ms

@@ -1,5 +1,5 @@
 -- The four published definitions are corners of the rule.
-use Prim.Native.Nat.{ℕ, suc, _-_, _≤_, _<_}
+use Prim.Native.Nat.{ℕ, suc, _-_, _≤_}
 use native.Mathlib.Nat.{le-refl}
 use native.Mathlib.Omega.{arith}
 use mathlib.Core.List.{List}
@@ -7,7 +7,8 @@ use mathlib.Core.Logic.{_↔_}
 use lib.IntN.{ℤ}
 use lib.ListN.{length, drop}
 use lib.Signed.{_<ℤ_}
-use Rattle.judge.proofs.Plan.{covered-le, legal→plan}
+use Rattle.judge.proofs.Onward.{as-long}
+use Rattle.judge.proofs.Tally.{covered-le}
 use Rattle.judge.specs.Rule.{carries}
 use Rattle.published.proofs.Sets.{Within, _∈_, each, each-to, all, some, which}
 use Rattle.published.proofs.Slots.{From, from, all-over, each-over}
@@ -36,7 +37,7 @@ module _ (X : List ℤ) (yc len h : ℕ) (k : ℤ) (zc : ℕ) (S : List Run) (o 
         summed = o .summed;
       } in
       let (ms, e, to, fro, ws, cs) = drawn k (suc len) h yc zc X S (omega arith) wide in
-      omega (arith, cs, covered-le (legal→plan (carries k) len h X ms e))
+      omega (arith, cs, covered-le ms, as-long (carries k) (suc len) h X ms e)
 
   -- so a covered maximum of n has no force
   pub without-force : Obeys k len h yc (length X) X S

@@ -1,10 +1,11 @@
 -- `judge::verdict::judge` meets its contract: what the judge says, by the tests on the way (`Judging`).
 use Prim.Native.Nat.{_≤_}
+use native.Mathlib.Omega.{arith}
 use mathlib.Core.Path.{_≡_, sym, _∙_, ap}
 use borrow.Author.Needs.{needs}
 use lib.ListN.{length}
 use Rattle.judge.proofs.Judging.{judging}
-use Rattle.judge.proofs.Rows.{lengths}
+use Rattle.judge.proofs.Passing.{passing}
 use Rattle.judge.specs.Refusals.{limit, checked}
 use Rattle.judge.proofs.verdict.judge.Statement.{statement}
 use Rattle.judge.proofs.verdict.judge.Tie as tie
@@ -22,7 +23,9 @@ enum-told : tie.Need-enum-told
 enum-told c = search needs
 
 passed : (c : tie.After-enum-told) → let args = c .before .before .before .before .args in (length (args .loads .now) ≡ length (args .marks .now)) × (length (args .marks .now) ≤ limit)
-passed c = lengths _ _ _ (sym (c .before .before .check .ensures) ∙ ap checked (c .enum-told .given .1))
+passed c =
+    let p = passing .0 (sym (c .before .before .check .ensures) ∙ ap checked (c .enum-told .given .1)) in
+    omega (arith, p .same .0, p .slots .1)
 
 legal-requires : tie.Need-legal-requires
 legal-requires c κs = passed c

@@ -1,0 +1,1 @@
+// Statements (specs/) and their proofs (proofs/) only: no operation.

@@ -1,0 +1,43 @@
+-- Least covered counts by recursion on the slots. What private functions are to promise: the filter's promise does not rest on it
+-- (proofs/Exact.antt has the two theorems that say what it is).
+--
+-- A slot is given by its class. A window has a first slot and at most `room` more, with at most h bridges. T stands for "no plan":
+-- counts are capped there.
+use Prim.Native.Nat.{ℕ, zero, suc, min}
+use mathlib.Core.Bool.{cond}
+use mathlib.Core.List.{List, [], _∷_}
+use lib.Dec.{leb}
+use Rattle.judge.specs.Ranges.{Class, allows}
+
+-- one of n is used up, or there is none to use
+abbrev pub spend : (T n : ℕ) → (ℕ → ℕ) → ℕ
+spend T zero f = T
+spend T (suc n) f = f n
+
+-- one more slot is covered
+abbrev pub dearer : (T c : ℕ) → ℕ
+dearer T c = min T (suc c)
+
+module _ (T room h : ℕ) where
+  -- best: the least covered count with at most w windows. A slot that may be uncovered is left so, any other opens a window.
+  -- onward: the same in a window with r slots and b bridges left, which goes on with the next slot. A slot that may be over is
+  -- taken as over, and behind it the window closes or goes on; any other is a bridge.
+  unfoldable mutual
+    pub best : List Class → (w : ℕ) → ℕ
+    best [] w = 0
+    best (c ∷ cs) w =
+        cond (allows c 0) (best cs w) (dearer T (spend T w λ w. min (best cs w) (onward cs room h w)))
+
+    pub onward : List Class → (r b w : ℕ) → ℕ
+    onward [] r b w = T
+    onward (c ∷ cs) r b w =
+        dearer T (spend T r λ r. cond (allows c 2) (min (best cs w) (onward cs r b w)) (spend T b λ b. onward cs r b w))
+
+  -- behind an over slot of a window: it closes or goes on
+  abbrev pub after : List Class → (r b w : ℕ) → ℕ
+  after cs r b w = min (best cs w) (onward cs r b w)
+
+  -- the first of the window counts from w to w + d with which at most c slots are covered, or else w + d
+  unfoldable pub fewest : List Class → (c w d : ℕ) → ℕ
+  fewest cs c w zero = w
+  fewest cs c w (suc d) = cond (leb (best cs w) c) w (fewest cs c (suc w) d)
