@@ -18,24 +18,23 @@ use Rattle.judge.specs.declared.settings.Settings.{Settings}
 use Rattle.published.proofs.Corners.{recount}
 use Rattle.published.proofs.Theorems.{theorems}
 use Rattle.published.specs.Published.{Run, size, sum, _⊆_, WeightedSpringyFocus, Obeys, Corners, runs}
-use Rattle.filter.proofs.Alike.{alike}
-use Rattle.filter.proofs.Demand3.{demand3}
-use Rattle.filter.proofs.Keeping.{answered}
-use Rattle.filter.proofs.Outcomes.{none-so, says-none}
-use Rattle.filter.specs.Promise.{Answers}
-use Rattle.filter.specs.Request.{Request}
-use Rattle.demands.proofs.Measure.{measures, measures-covered}
+use Rattle.requests.proofs.Alike.{alike}
+use Rattle.requests.proofs.Demand3.{demand3}
+use Rattle.requests.proofs.Outcomes.{refused-so}
+use Rattle.requests.specs.Promise.{Answers}
+use Rattle.requests.specs.Request.{Request}
+use Rattle.demands.proofs.Measure.{delivers, delivers-covered}
 use Rattle.demands.specs.Demands.{Demand1, Demand2, Demands}
 
 demand1 : Demand1
 demand1 =
     record {
       judge = refusing;
-      outcome = answered;
+      filter = refused-so;
       decided = alike;
       unaltered = λ r o k. (
         (λ e. subst (λ a. Answers r a o) e k .2),
-        (λ f e. subst (λ a. Answers r a o) e k),
+        (λ f e. subst (λ a. Answers r a o) e k .1),
       );
     }
 
@@ -80,17 +79,16 @@ corners r X yc zc S = theorems .corners X yc _ _ _ zc S
 demand2 : Demand2
 demand2 =
     record {
-      weightedSpringy = λ r w. (
-        measures r w _ (λ X n yc S. corners r X yc (r .settings .covered .most) S .weightedSpringy),
-        measures-covered r w _ (λ X n zc S. corners r X (r .settings .windows .most) zc S .weightedSpringy),
+      weightedSpringy = λ r o f. (
+        delivers r (f .well) _ (λ X n yc S. corners r X yc (r .settings .covered .most) S .weightedSpringy) o (f .kept),
+        delivers-covered r (f .well) _ (λ X n zc S. corners r X (r .settings .windows .most) zc S .weightedSpringy) o (f .kept),
       );
-      weighted = λ r w h. (
-        measures r w _ (λ X n yc S. rw h (corners r X yc (r .settings .covered .most) S .weighted)),
-        measures-covered r w _ (λ X n zc S. rw h (corners r X (r .settings .windows .most) zc S .weighted)),
+      weighted = λ r o f h. (
+        delivers r (f .well) _ (λ X n yc S. rw h (corners r X yc (r .settings .covered .most) S .weighted)) o (f .kept),
+        delivers-covered r (f .well) _ (λ X n zc S. rw h (corners r X (r .settings .windows .most) zc S .weighted)) o (f .kept),
       );
-      springy = λ r w most. measures r w _ (λ X n yc S. rw (most, ← n) (corners r X yc 0 S .springy));
-      focus = λ r w h most. measures r w _ (λ X n yc S. rw (h, most, ← n) (corners r X yc 0 S .focus));
-      no-plan = λ r o w k. (none-so r o k, says-none r o k w);
+      springy = λ r o f most. delivers r (f .well) _ (λ X n yc S. rw (most, ← n) (corners r X yc 0 S .springy)) o (f .kept);
+      focus = λ r o f h most. delivers r (f .well) _ (λ X n yc S. rw (h, most, ← n) (corners r X yc 0 S .focus)) o (f .kept);
       judge-sound = sound;
       judge-complete = complete;
     }

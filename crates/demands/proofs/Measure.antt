@@ -1,44 +1,46 @@
--- The plans of a request and the sets of windows that obey the rule for a choice of its loads, both ways; and from there every
--- definition that is the rule at the request's settings.
-use Prim.Native.Nat.{ℕ, _≤_, _<_}
-use native.Mathlib.Nat.{le-refl, le-antisymm}
+-- The plans of a request and the sets of windows that obey the rule for a choice of its loads, both ways; and from there what is
+-- handed back, by every definition that is the rule at the request's settings.
+use Prim.Native.Nat.{ℕ, _≤_}
+use native.Mathlib.Nat.{le-refl}
 use native.Mathlib.Omega.{arith}
 use mathlib.Core.Bool.{true}
 use mathlib.Core.List.{List}
 use mathlib.Core.Logic.{_↔_}
-use mathlib.Core.Path.{_≡_, subst}
+use mathlib.Core.Path.{_≡_, sym, _∙_, subst}
 use lib.IntN.{ℤ}
 use lib.ListN.{length}
+use Rattle.judge.proofs.Allowing.{Allowed, allowing, said}
 use Rattle.judge.specs.Ranges.{ChosenIn}
 use Rattle.judge.specs.Rule.{legal, windows, covered}
+use Rattle.judge.specs.declared.settings.CountRange.{CountRange}
 use Rattle.judge.specs.declared.settings.Settings.{Settings}
 use Rattle.published.proofs.Corners.{recount}
 use Rattle.published.proofs.Theorems.{theorems}
 use Rattle.published.specs.Published.{Run, Obeys, runs}
-use Rattle.filter.proofs.Requests.{formed, chosen-slots}
-use Rattle.filter.specs.Request.{Request, slots, ranges, at, WellFormed, PlanOf, LeftAt, LeastOver}
-use Rattle.demands.specs.Demands.{Definition, Satisfied, Least, Measures, MeasuresCovered}
+use Rattle.requests.proofs.Choices.{chosen-length, paired-length}
+use Rattle.requests.proofs.Outcomes.{planned-so, none-so, says-none}
+use Rattle.requests.proofs.Requests.{formed, chosen-slots}
+use Rattle.requests.specs.Promise.{Outcome, Raised, Drawn, Keeps}
+use Rattle.requests.specs.Request.{Request, slots, paired, ranges, WellFormed, PlanOf, LeftAt}
+use Rattle.demands.specs.Demands.{Definition, Satisfied, Occurs, TrueLeast, Delivers, DeliversCovered}
 
 -- the least of a count over plans is the least number that suffices
-least-iff : {Plan : List ℕ → Type 0} {count : List ℕ → ℕ} {Q : ℕ → Type 0} → ((ms : List ℕ) → Plan ms → Q (count ms)) →
-    ((u : ℕ) → Q u → (ms : List ℕ) × Plan ms × (count ms ≤ u)) → (v : ℕ) → LeastOver Plan count v ↔ Least Q v
-least-iff {Plan} {count} {Q} into back v = (to, from)
-  where
-    to : LeastOver Plan count v → Least Q v
-    to l =
-        let (ms, p, e) = l .met in
-        record {
-          met = subst Q e (into ms p);
-          least = λ u q. let (ms, p, few) = back u q in omega (arith, l .least ms p, few);
-        }
-
-    from : Least Q v → LeastOver Plan count v
-    from l =
-        let (ms, p, few) = back v (l .met) in
-        record {
-          met = (ms, p, le-antisymm few (l .least (count ms) (into ms p)));
-          least = λ ms p. l .least (count ms) (into ms p);
-        }
+true-least : {r : Request} {D : Definition} {count : List ℕ → ℕ} {given handed : CountRange} →
+    ((ms : List ℕ) → PlanOf r ms → (count ms ≤ given .most) × Satisfied r D (count ms)) →
+    ((u : ℕ) → (u ≤ given .most) × Satisfied r D u → (ms : List ℕ) × PlanOf r ms × (count ms ≤ u)) →
+    Raised r count given handed → TrueLeast r D given handed
+true-least {r} {D} {given = given} into back raised =
+    let l = raised .least in
+    let (ms, p, e) = l .met in
+    record {
+      value = raised .value;
+      least = record {
+        met = subst (λ u. (u ≤ given .most) × Satisfied r D u) e (into ms p);
+        least = λ u q. let (ms, p, few) = back u q in omega (arith, l .least ms p, few);
+      };
+      minimum = raised .minimum;
+      maximum = raised .maximum;
+    }
 
 module _ (r : Request) (w : WellFormed r) where
   abbrev s : Settings
@@ -86,9 +88,8 @@ module _ (r : Request) (w : WellFormed r) where
         let (ms, p, e, few, short) = plan-of X yc _ S c most (le-refl _) (is X (wide X c) yc S .0 d) in
         (ms, p, few)
 
-    loads : (i : ℕ) (x : ℤ) → LeftAt r i x ↔
-        ((X : List ℤ) × ChosenIn (ranges r) X × (i < length X) × (at X i ≡ x) × (S : List Run) × D X (s .windows .most) S)
-    loads i x = (
+    occurs : (i : ℕ) (x : ℤ) → LeftAt r i x ↔ Occurs r D (s .windows .most) i x
+    occurs i x = (
       (λ l. (
         l .loads,
         l .chosen,
@@ -103,30 +104,48 @@ module _ (r : Request) (w : WellFormed r) where
           record { loads = X; marks = ms; chosen = c; plan = p; in-rule = e; there = there; occurs = occurs }),
     )
 
-    pub measures : Measures r D
-    measures =
+    drawn : (o : Outcome) → length (o .lowest) ≡ slots r → length (o .highest) ≡ slots r → Drawn r o →
+        (X : List ℤ) × ChosenIn (paired (o .lowest) (o .highest)) X × D X (s .windows .most) (runs 0 (o .marks))
+    drawn o low high d =
+        let (e, a, _, _) = said s (d .loads) (o .marks) _ _ (d .yes) in
+        let allow : Allowed s (d .loads) (o .marks) = allowing .0 a in
+        let chosen = chosen-length (paired (o .lowest) (o .highest)) (d .loads) (d .chosen) in
+        let as-many = chosen ∙ paired-length (o .lowest) (o .highest) (low ∙ sym high) ∙ low in (
+          d .loads,
+          d .chosen,
+          is (d .loads) as-many _ _ .1
+              (drawn-by (d .loads) (o .marks) _ _ (allow .in-rule) (allow .windows-fit) (allow .covered-fit)),
+        )
+
+    pub delivers : (o : Outcome) → Keeps r o → Delivers r D o
+    delivers o k =
         record {
-          no-plan = (
-            (λ none q. let (ms, p, few) = planned _ (le-refl _) q in none ms p),
-            (λ none ms p. none (satisfied ms p _ (p .windows-fit))),
+          none = (
+            (λ e q. let (ms, p, few) = planned _ (le-refl _) q in none-so r o k e ms p),
+            (λ none. says-none r o k w (λ ms p. none (satisfied ms p _ (p .windows-fit)))),
           );
-          windows = least-iff (λ ms p. (p .windows-fit, satisfied ms p _ (le-refl _))) (λ u (most, q). planned u most q);
-          loads = loads;
+          windows = λ v c e. true-least
+              (λ ms p. (p .windows-fit, satisfied ms p _ (le-refl _))) (λ u (most, q). planned u most q)
+              (planned-so r o k v c e .windows);
+          loads = λ v c e i there x.
+              let exact = planned-so r o k v c e .narrowed i there .exact x in
+              ((λ held. occurs i x .0 (exact .0 held)), (λ q. exact .1 (occurs i x .1 q)));
+          plan = λ v c e. let p = planned-so r o k v c e in drawn o (p .lowest-length) (p .highest-length) (p .drawn);
         }
 
   -- D is the rule by its covered count
   abbrev ByCovered : Definition → Type 0
   ByCovered D = (X : List ℤ) → length X ≡ slots r → (zc : ℕ) (S : List Run) → D X zc S ↔ Rule X (s .windows .most) zc S
 
-  module _ (D : Definition) (is : ByCovered D) where
-    pub measures-covered : MeasuresCovered r D
-    measures-covered =
-        record {
-          covered = least-iff
-              (λ ms p.
-              let (X, c, e) = p .in-rule in
-              (p .covered-fit, (X, c, runs 0 ms, is X (wide X c) _ _ .1 (drawn-by X ms _ _ e (p .windows-fit) (le-refl _)))))
-              (λ u (most, (X, c, S, d)).
-              let (ms, p, e, few, short) = plan-of X _ u S c (le-refl _) most (is X (wide X c) u S .0 d) in
-              (ms, p, short));
-        }
+  pub delivers-covered : (D : Definition) → ByCovered D → (o : Outcome) → Keeps r o → DeliversCovered r D o
+  delivers-covered D is o k =
+      record {
+        covered = λ v c e. true-least
+            (λ ms p.
+            let (X, c, e) = p .in-rule in
+            (p .covered-fit, (X, c, runs 0 ms, is X (wide X c) _ _ .1 (drawn-by X ms _ _ e (p .windows-fit) (le-refl _)))))
+            (λ u (most, (X, c, S, d)).
+            let (ms, p, e, few, short) = plan-of X _ u S c (le-refl _) most (is X (wide X c) u S .0 d) in
+            (ms, p, short))
+            (planned-so r o k v c e .covered);
+      }

@@ -1,6 +1,5 @@
-pub mod Request
-pub mod Promise
-pub mod Demand3
-pub mod Cases
-pub mod Best
-pub mod Solution
+pub mod Answers
+pub mod Codes
+pub mod Rows
+pub mod Drawing
+pub mod Parts

@@ -8,35 +8,38 @@ use lib.IntN.{ℤ}
 use lib.ListN.{length}
 use Rattle.judge.proofs.Rules.{and-false}
 use Rattle.judge.specs.Judgment.{says, refuses, allowed, judgment}
-use Rattle.judge.specs.Refusals.{refusal, number, checked}
+use Rattle.judge.specs.Refusals.{wrongOther, refusalBy, refusal, number, checked}
 use Rattle.judge.specs.Rule.{legal, windows, covered}
 use Rattle.judge.specs.declared.settings.Checked.the-variants.{Passed, Refused}
 use Rattle.judge.specs.declared.settings.Checked.{Checked}
 use Rattle.judge.specs.declared.settings.Refusal.{Refusal}
 use Rattle.judge.specs.declared.settings.Settings.{Settings}
 
-module _ (s : Settings) (xs : List ℤ) (ms : List ℕ) (k : Checked) (is : checked k ≡ refusal (length xs) (length ms ∷ []) s) where
+module _ (s : Settings) (xs : List ℤ) (ms : List ℕ) (d : Bool) (k : Checked) (differs : d ≡ wrongOther (length xs) (length ms ∷ []))
+    (is : checked k ≡ refusalBy (length xs) d s) where
   pub refused : (r : Refusal) → k ≡ Refused r → refuses (number r) ≡ judgment s xs ms
-  unfolding judgment
-  refused r e = rw (← is, e)
+  unfolding judgment refusal
+  refused r e = rw (← differs, ← is, e)
 
   module _ (passed : k ≡ Passed) where
     pub illegal : {b : Bool} → b ≡ legal (s .k) (s .len) (s .h) xs ms → not b ≡ true → says false 0 0 ≡ judgment s xs ms
-    unfolding judgment allowed
-    illegal {b} b-is e = rw (← is, passed, ← b-is, not-true b e)
+    unfolding judgment refusal allowed
+    illegal {b} b-is e = rw (← differs, ← is, passed, ← b-is, not-true b e)
 
     module _ (w c : ℕ) (w-is : w ≡ windows ms) (c-is : c ≡ covered ms) where
       pub too-many : s .windows .most < w → says false 0 0 ≡ judgment s xs ms
-      unfolding judgment allowed
-      too-many h = simp (← is, passed, ← w-is, lt-leb w (s .windows .most), and-false)
+      unfolding judgment refusal allowed
+      too-many h = simp (← differs, ← is, passed, ← w-is, lt-leb w (s .windows .most), and-false)
 
       pub too-much : s .covered .most < c → says false 0 0 ≡ judgment s xs ms
-      unfolding judgment allowed
-      too-much h = simp (← is, passed, ← c-is, lt-leb c (s .covered .most), and-false)
+      unfolding judgment refusal allowed
+      too-much h = simp (← differs, ← is, passed, ← c-is, lt-leb c (s .covered .most), and-false)
 
-      pub accepted : {b : Bool} → b ≡ legal (s .k) (s .len) (s .h) xs ms → not b ≡ false → w ≤ s .windows .most → c ≤ s .covered .most → says true w c ≡ judgment s xs ms
-      unfolding judgment allowed
+      pub accepted : {b : Bool} → b ≡ legal (s .k) (s .len) (s .h) xs ms → not b ≡ false → w ≤ s .windows .most →
+          c ≤ s .covered .most → says true w c ≡ judgment s xs ms
+      unfolding judgment refusal allowed
       accepted {b} b-is e h g =
-          simp (← is, passed, ← b-is, not-false b e, ← w-is, ← c-is, le-leb w (s .windows .most), le-leb c (s .covered .most))
+          simp
+          (← differs, ← is, passed, ← b-is, not-false b e, ← w-is, ← c-is, le-leb w (s .windows .most), le-leb c (s .covered .most))
 
 pub ruleset judging = (refused, illegal, too-many, too-much, accepted)

@@ -9,7 +9,7 @@ use mathlib.Core.Path.{_≡_, refl}
 use borrow.Author.Tests.{ltb-false, le-ltb, eqb-true, eq-eqb, ne-eqb, eqb-false, not-false}
 use lib.Dec.{ltb, eqb}
 use Rattle.judge.proofs.Rules.{neither}
-use Rattle.judge.specs.Refusals.{Row, row, first, limit, wrongSlots, wrongOther, wrongLength, wrongBridges, wrongCounts, refusal}
+use Rattle.judge.specs.Refusals.{Row, row, first, limit, wrongSlots, wrongOther, wrongLength, wrongBridges, wrongCounts, refusalBy, refusal}
 use Rattle.judge.specs.declared.settings.CountRange.{CountRange}
 use Rattle.judge.specs.declared.settings.Settings.{Settings}
 
@@ -78,7 +78,7 @@ counts range n = (to, from)
     from (low, high) = rw (le-ltb (range .most) (range .least) low, le-ltb n (range .most) high)
 
 to : (n : ℕ) (ns : List ℕ) (s : Settings) → refusal n ns s ≡ none → Passing n ns s
-unfolding refusal wrongSlots wrongLength
+unfolding refusal refusalBy wrongSlots wrongLength
 to n ns s e =
     let (slots, e) = clear _ _ _ e in
     let (same, e) = clear _ _ _ e in
@@ -96,7 +96,7 @@ to n ns s e =
     }
 
 from : (n : ℕ) (ns : List ℕ) (s : Settings) → Passing n ns s → refusal n ns s ≡ none
-unfolding refusal first wrongSlots wrongLength
+unfolding refusal refusalBy first wrongSlots wrongLength
 from n ns s p =
     rw (
       sized n limit .1 (p .slots),
@@ -109,3 +109,9 @@ from n ns s p =
 
 pub passing : {n : ℕ} {ns : List ℕ} {s : Settings} → (refusal n ns s ≡ none) ↔ Passing n ns s
 passing {n} {ns} {s} = (to n ns s, from n ns s)
+
+-- the same, where a test told whether another slice has a different length
+pub passing-by : {n : ℕ} {ns : List ℕ} {s : Settings} {differs : Bool} → differs ≡ wrongOther n ns → refusalBy n differs s ≡ none →
+    Passing n ns s
+unfolding refusal
+passing-by {n} {ns} {s} is e = to n ns s (rw (← is) e)

@@ -46,17 +46,21 @@ wrongBridges h len = ltb 0 h && leb len (h + 1)
 unfoldable pub wrongCounts : CountRange → (n : ℕ) → Bool
 wrongCounts range n = ltb (range .most) (range .least) || ltb n (range .most)
 
--- the first slice has n entries; the others have as many as the list says
-unfoldable pub refusal : (n : ℕ) (others : List ℕ) → Settings → Option ℕ
-refusal n others s =
+-- the first slice has n entries, and another may have a different length
+unfoldable pub refusalBy : (n : ℕ) (differs : Bool) → Settings → Option ℕ
+refusalBy n differs s =
     first
     (row 21 (wrongSlots n)
-    ∷ row 22 (wrongOther n others)
+    ∷ row 22 differs
     ∷ row 23 (wrongLength (s .len) n)
     ∷ row 24 (wrongBridges (s .h) (s .len))
     ∷ row 25 (wrongCounts (s .windows) n)
     ∷ row 26 (wrongCounts (s .covered) n)
     ∷ [])
+
+-- the others have as many entries as the list says
+unfoldable pub refusal : (n : ℕ) (others : List ℕ) → Settings → Option ℕ
+refusal n others s = refusalBy n (wrongOther n others) s
 
 -- document 01's number of each refusal
 abbrev pub number : Refusal → ℕ

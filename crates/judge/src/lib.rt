@@ -6,8 +6,10 @@ mod settings;
 mod verdict;
 
 pub use choice::choose;
+pub use settings::Checked;
 pub use settings::CountRange;
 pub use settings::Refusal;
 pub use settings::Settings;
+pub use settings::check;
 pub use verdict::Verdict;
 pub use verdict::judge;

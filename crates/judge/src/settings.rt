@@ -1,7 +1,7 @@
 // The settings of a request, and the refusals of lengths and settings.
 ghost use mathlib.Core.Path.{_≡_};
 ghost use mathlib.Core.List.{[], _∷_};
-ghost use Rattle.judge.specs.Refusals.{number as Refusals·number, checked, refusal};
+ghost use Rattle.judge.specs.Refusals.{number as Refusals·number, checked, refusalBy};
 ghost use Rattle.judge.specs.Refusals.{wrongSlots, wrongOther, wrongLength, wrongBridges, wrongCounts};
 
 // The most slots of a plan.
@@ -55,14 +55,14 @@ pub enum Checked {
     Refused(Refusal),
 }
 
-// Meets the places in their order, for a first slice of n entries and one more slice of other entries.
-pub(crate) fn check(settings: Settings, n: usize, other: usize) -> Checked
-    ensures { λ r. ⌜ checked r ≡ refusal n (other ∷ []) settings ⌝ }
+// Meets the places in their order, for a first slice of n entries; differs says whether another has a different length.
+pub fn check(settings: Settings, n: usize, differs: bool) -> Checked
+    ensures { λ r. ⌜ checked r ≡ refusalBy n differs settings ⌝ }
 {
     if wrong_slots(n) {
         return Checked::Refused(Refusal::FirstLength);
     }
-    if wrong_other(other, n) {
+    if differs {
         return Checked::Refused(Refusal::OtherLength);
     }
     if wrong_length(settings.len, n) {
@@ -87,7 +87,7 @@ fn wrong_slots(n: usize) -> bool
     n == 0 || n > LIMIT
 }
 
-fn wrong_other(other: usize, n: usize) -> bool
+pub(crate) fn wrong_other(other: usize, n: usize) -> bool
     ensures { λ r. ⌜ r ≡ wrongOther n (other ∷ []) ⌝ }
 {
     other != n

@@ -7,6 +7,7 @@ use crate::settings::Checked;
 use crate::settings::Refusal;
 use crate::settings::Settings;
 use crate::settings::check;
+use crate::settings::wrong_other;
 
 // What the judge says of a plan.
 pub enum Verdict {
@@ -19,7 +20,8 @@ pub enum Verdict {
 pub fn judge(settings: Settings, loads: &[i32], marks: &[u8]) -> Verdict
     ensures { λ r. ⌜ told r ≡ judgment settings (now (loads .entry)) (now (marks .entry)) ⌝ }
 {
-    let checked = check(settings, loads.len(), marks.len());
+    let differs = wrong_other(marks.len(), loads.len());
+    let checked = check(settings, loads.len(), differs);
     if let Checked::Refused(refusal) = checked {
         return Verdict::Refused(refusal);
     }

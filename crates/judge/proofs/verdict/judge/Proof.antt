@@ -5,10 +5,13 @@ use mathlib.Core.Path.{_≡_, sym, _∙_, ap}
 use borrow.Author.Needs.{needs}
 use lib.ListN.{length}
 use Rattle.judge.proofs.Judging.{judging}
-use Rattle.judge.proofs.Passing.{passing}
+use Rattle.judge.proofs.Passing.{passing-by}
 use Rattle.judge.specs.Refusals.{limit, checked}
 use Rattle.judge.proofs.verdict.judge.Statement.{statement}
 use Rattle.judge.proofs.verdict.judge.Tie as tie
+
+wrong-other-requires : tie.Need-wrong-other-requires
+wrong-other-requires c κs = search needs
 
 check-requires : tie.Need-check-requires
 check-requires c κs = search needs
@@ -22,9 +25,11 @@ returns c = search judging depth 7
 enum-told : tie.Need-enum-told
 enum-told c = search needs
 
-passed : (c : tie.After-enum-told) → let args = c .before .before .before .before .args in (length (args .loads .now) ≡ length (args .marks .now)) × (length (args .marks .now) ≤ limit)
+passed : (c : tie.After-enum-told) → let args = c .before .before .before .before .before .args in
+    (length (args .loads .now) ≡ length (args .marks .now)) × (length (args .marks .now) ≤ limit)
 passed c =
-    let p = passing .0 (sym (c .before .before .check .ensures) ∙ ap checked (c .enum-told .given .1)) in
+    let k = c .before .before in
+    let p = passing-by (k .before .wrong-other .ensures) (sym (k .check .ensures) ∙ ap checked (c .enum-told .given .1)) in
     omega (arith, p .same .0, p .slots .1)
 
 legal-requires : tie.Need-legal-requires
@@ -49,6 +54,7 @@ pub judge-spec : {M : Type 1} → statement M
 judge-spec =
     tie.close
     (tie.spec
+    wrong-other-requires
     check-requires
     enum-known-checked
     returns

@@ -1,0 +1,186 @@
+#include "plain.h"
+
+#include <stdbool.h>
+
+enum slot_class { UNDER, OVER, EITHER };
+
+/* Stands for "no plan" in a row. */
+#define NONE UINT16_MAX
+
+struct problem {
+    size_t n;
+    uint16_t len, h, windows_most, covered_most;
+    uint8_t classes[ICECOPPICE_SLOTS];
+};
+
+/* least[j]: the least covered count of the slots from j on, with at most as many windows as the row is for. */
+struct row {
+    uint16_t least[ICECOPPICE_SLOTS + 1];
+};
+
+struct low {
+    uint16_t windows, covered;
+};
+
+static uint16_t smaller(uint16_t a, uint16_t b)
+{
+    return a < b ? a : b;
+}
+
+static uint16_t capped_sum(uint16_t a, uint16_t b)
+{
+    return a > NONE - b ? NONE : (uint16_t)(a + b);
+}
+
+/* The least covered count of a window that goes on at slot e, with `room` slots and `bridges` bridges left to it. */
+static uint16_t onward(const struct problem *p, size_t e, uint16_t room, uint16_t bridges, const struct row *behind)
+{
+    uint16_t best = NONE;
+    for (uint16_t used = 1; e < p->n && room > 0; used++, e++, room--) {
+        if (p->classes[e] != UNDER) {
+            best = smaller(best, capped_sum(used, behind->least[e + 1]));
+        } else if (bridges == 0) {
+            break;
+        } else {
+            bridges--;
+        }
+    }
+    return best;
+}
+
+/* The row for one window more than `behind`. */
+static void next_row(const struct problem *p, const struct row *behind, struct row *row)
+{
+    row->least[p->n] = 0;
+    for (size_t j = p->n; j-- > 0;) {
+        if (p->classes[j] == OVER) {
+            uint16_t rest = smaller(behind->least[j + 1], onward(p, j + 1, p->len - 1, p->h, behind));
+            row->least[j] = capped_sum(1, rest);
+        } else {
+            row->least[j] = row->least[j + 1];
+        }
+    }
+}
+
+/* Sets behind to the row for w - 1 windows. Answers for how few windows there is no plan within the covered maximum. */
+static uint16_t rows(const struct problem *p, uint16_t w, struct row *behind)
+{
+    uint16_t exceeding = 0;
+    for (size_t j = 0; j <= p->n; j++)
+        behind->least[j] = NONE;
+    for (uint16_t i = 0; i < w; i++) {
+        struct row row;
+        next_row(p, behind, &row);
+        *behind = row;
+        exceeding += row.least[0] > p->covered_most;
+    }
+    return exceeding;
+}
+
+static struct low low(const struct problem *p)
+{
+    struct row behind, row;
+    uint16_t windows = rows(p, p->windows_most, &behind);
+    next_row(p, &behind, &row);
+    return (struct low){windows, row.least[0]};
+}
+
+static bool plan_left(const struct problem *p, size_t slot, enum slot_class settled)
+{
+    struct problem changed = *p;
+    changed.classes[slot] = settled;
+    return low(&changed).covered <= p->covered_most;
+}
+
+static void narrow(const struct problem *p, int32_t k, int32_t *lowest, int32_t *highest)
+{
+    for (size_t j = 0; j < p->n; j++) {
+        if (p->classes[j] != EITHER)
+            continue;
+        if (!plan_left(p, j, UNDER))
+            lowest[j] = k + 1;
+        else if (!plan_left(p, j, OVER))
+            highest[j] = k;
+    }
+}
+
+/* Goes forward and closes each window as soon as the rest fits into what is left of both maximums. */
+static void draw(const struct problem *p, uint8_t *marks)
+{
+    uint16_t windows = p->windows_most, covered = p->covered_most;
+    bool inside = false;
+    struct row behind;
+    for (size_t j = 0; j < p->n; j++) {
+        if (inside && marks[j - 1] != ICECOPPICE_BRIDGE && behind.least[j] <= covered)
+            inside = false;
+        if (inside) {
+            marks[j] = p->classes[j] == UNDER ? ICECOPPICE_BRIDGE : ICECOPPICE_LATER;
+            covered--;
+        } else if (p->classes[j] == OVER) {
+            rows(p, windows, &behind);
+            marks[j] = ICECOPPICE_FIRST;
+            windows--;
+            covered--;
+            inside = true;
+        } else {
+            marks[j] = ICECOPPICE_UNCOVERED;
+        }
+    }
+}
+
+static uint16_t refusal(uint16_t len, uint16_t h, uint16_t windows_least, uint16_t windows_most,
+                        uint16_t covered_least, uint16_t covered_most,
+                        size_t n, size_t highest_length, size_t marks_length)
+{
+    if (n == 0 || n > ICECOPPICE_SLOTS)
+        return ICECOPPICE_FIRST_LENGTH;
+    if (highest_length != n || marks_length != n)
+        return ICECOPPICE_OTHER_LENGTH;
+    if (len == 0 || len > n)
+        return ICECOPPICE_WINDOW_LENGTH;
+    if (h > 0 && h + 1 >= len)
+        return ICECOPPICE_BRIDGES;
+    if (windows_least > windows_most || windows_most > n)
+        return ICECOPPICE_WINDOW_COUNTS;
+    if (covered_least > covered_most || covered_most > n)
+        return ICECOPPICE_COVERED_COUNTS;
+    return 0;
+}
+
+static enum slot_class class_of(int32_t k, int32_t lowest, int32_t highest)
+{
+    if (highest <= k)
+        return UNDER;
+    return lowest > k ? OVER : EITHER;
+}
+
+struct icecoppice_answer plain_filter(int32_t k, uint16_t len, uint16_t h,
+                                      uint16_t windows_least, uint16_t windows_most,
+                                      uint16_t covered_least, uint16_t covered_most,
+                                      int32_t *lowest, size_t lowest_length,
+                                      int32_t *highest, size_t highest_length,
+                                      uint8_t *marks, size_t marks_length)
+{
+    struct icecoppice_answer answer = {0};
+    size_t n = lowest_length;
+    answer.code = refusal(len, h, windows_least, windows_most, covered_least, covered_most,
+                          n, highest_length, marks_length);
+    if (answer.code != 0)
+        return answer;
+    struct problem p = {.n = n, .len = len, .h = h, .windows_most = windows_most, .covered_most = covered_most};
+    for (size_t j = 0; j < n; j++) {
+        if (lowest[j] > highest[j])
+            return (struct icecoppice_answer){.code = ICECOPPICE_CROSSED, .slot = j};
+        p.classes[j] = class_of(k, lowest[j], highest[j]);
+    }
+    struct low least = low(&p);
+    if (least.covered > covered_most)
+        return (struct icecoppice_answer){.code = ICECOPPICE_NO};
+    narrow(&p, k, lowest, highest);
+    draw(&p, marks);
+    answer.windows_least = windows_least > least.windows ? windows_least : least.windows;
+    answer.windows_most = windows_most;
+    answer.covered_least = covered_least > least.covered ? covered_least : least.covered;
+    answer.covered_most = covered_most;
+    return answer;
+}

@@ -1,0 +1,14 @@
+/* The library's algorithm for the filter, written plainly in C, to measure the library beside it. */
+#ifndef PLAIN_H
+#define PLAIN_H
+
+#include "../include/icecoppice.h"
+
+struct icecoppice_answer plain_filter(int32_t k, uint16_t len, uint16_t h,
+                                      uint16_t windows_least, uint16_t windows_most,
+                                      uint16_t covered_least, uint16_t covered_most,
+                                      int32_t *lowest, size_t lowest_length,
+                                      int32_t *highest, size_t highest_length,
+                                      uint8_t *marks, size_t marks_length);
+
+#endif

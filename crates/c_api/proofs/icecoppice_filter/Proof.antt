@@ -1,0 +1,47 @@
+-- `c_api::icecoppice_filter` meets its contract: the answer is the filter's, for settings of these numbers.
+use Rattle.filter.specs.Answers.{told}
+use mir.Facts.{toZ-ofZ}
+use borrow.Author.Needs.{needs}
+use Rattle.c_api.proofs.icecoppice_filter.Statement.{statement}
+use Rattle.c_api.proofs.icecoppice_filter.Tie as tie
+
+gather-requires : tie.Need-gather-requires
+gather-requires c κs = search needs
+
+filter-requires : tie.Need-filter-requires
+filter-requires c κs = search needs
+
+answer-numbers-requires : tie.Need-answer-numbers-requires
+answer-numbers-requires c κs = search needs
+
+same-length : tie.Need-same-length
+same-length c = search needs
+
+same-length-2 : tie.Need-same-length-2
+same-length-2 c = search needs
+
+same-length-3 : tie.Need-same-length-3
+same-length-3 c = search needs
+
+returns : tie.Need-returns
+returns c =
+    let told-by = c .before .before .before .before .before in
+    let gathered = told-by .before .before .before .before in
+    let settings = simp (toZ-ofZ, gathered .before .before .fits .k) at (gathered .gather .ensures) in
+    record {
+      answer = told (told-by .filter .result);
+      is = c .answer-numbers .ensures;
+      kept = rw (← settings) (told-by .filter .ensures);
+    }
+
+pub icecoppice-filter-spec : {M : Type 1} → statement M
+icecoppice-filter-spec =
+    tie.close
+    (tie.spec
+    gather-requires
+    filter-requires
+    answer-numbers-requires
+    same-length
+    same-length-2
+    same-length-3
+    returns)

@@ -1,0 +1,55 @@
+-- The answers of the C interface in numbers, and its promises.
+use Prim.Native.Nat.{ℕ, _≤_}
+use mathlib.Core.Bool.{true, false}
+use mathlib.Core.List.{List}
+use mathlib.Core.Option.{some}
+use mathlib.Core.Path.{_≡_}
+use lib.IntN.{ℤ}
+use Rattle.judge.specs.Judgment.{Judgment, says, refuses as judge-refuses}
+use Rattle.judge.specs.declared.settings.Settings.{Settings}
+use Rattle.requests.specs.Promise.{Answer, refuses, no-plan, planned, NoPlan, Keeps}
+use Rattle.requests.specs.Request.{Request, Refused, numbered, at-slot, refused, WellFormed, PlanOf}
+use Rattle.c_api.specs.declared.AnswerNumbers.{AnswerNumbers}
+use Rattle.c_api.specs.declared.VerdictNumbers.{VerdictNumbers}
+
+abbrev pub settingsOf : ℤ → (len h windows-least windows-most covered-least covered-most : ℕ) → Settings
+settingsOf k len h wl wm cl cm =
+    record { k = k; len = len; h = h; windows = record { least = wl; most = wm }; covered = record { least = cl; most = cm } }
+
+abbrev pub withoutCounts : (code slot : ℕ) → AnswerNumbers
+withoutCounts code slot =
+    record { code = code; slot = slot; «windows_least» = 0; «windows_most» = 0; «covered_least» = 0; «covered_most» = 0 }
+
+-- 0 planned, 1 no plan, else the refusal's number; 31 has its slot
+abbrev pub answerOf : Answer → AnswerNumbers
+answerOf (refuses (numbered n)) = withoutCounts n 0
+answerOf (refuses (at-slot n i)) = withoutCounts n i
+answerOf no-plan = withoutCounts 1 0
+answerOf (planned w c) =
+    record {
+      code = 0;
+      slot = 0;
+      «windows_least» = w .least;
+      «windows_most» = w .most;
+      «covered_least» = c .least;
+      «covered_most» = c .most;
+    }
+
+-- 0 yes, 1 no, else the refusal's number
+abbrev pub verdictOf : Judgment → VerdictNumbers
+verdictOf (says true w c) = record { code = 0; windows = w; covered = c }
+verdictOf (says false w c) = record { code = 1; windows = w; covered = c }
+verdictOf (judge-refuses n) = record { code = n; windows = 0; covered = 0 }
+
+-- The numbers are those of an answer that keeps the filter's promise, with what the slices hold then. What a caller can tell
+-- from them is `Means` (proofs/Meaning.antt).
+pub record Answered (r : Request) (numbers : AnswerNumbers) (lowest highest : List ℤ) (marks : List ℕ) : Type 0 where
+  pub answer : Answer
+  pub is : numbers ≡ answerOf answer
+  pub kept : Keeps r (record { answer = answer; lowest = lowest; highest = highest; marks = marks })
+
+-- What a request gives is in its numbers: exactly one of the three applies, and no two of them share a code.
+pub record Means (r : Request) (numbers : AnswerNumbers) : Type 0 where
+  pub refusal : (f : Refused) → refused r ≡ some f → (numbers ≡ answerOf (refuses f)) × (21 ≤ numbers .code)
+  pub none : WellFormed r → NoPlan r → numbers ≡ answerOf no-plan
+  pub plan : WellFormed r → (ms : List ℕ) → PlanOf r ms → numbers .code ≡ 0

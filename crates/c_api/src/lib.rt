@@ -1,0 +1,169 @@
+// The filter and the judge for C: on numbers and slices, under names with a prefix. include/icecoppice.h declares them.
+ghost use mathlib.Core.Path.{_≡_};
+ghost use Rattle.judge.specs.Judgment.{judgment, told as Judgment·told};
+ghost use Rattle.filter.specs.Answers.{asked, told as Answers·told};
+ghost use Rattle.c_api.specs.Numbers.{Answered, answerOf, verdictOf, settingsOf, withoutCounts};
+use filter::Answer;
+use filter::filter;
+use judge::CountRange;
+use judge::Settings;
+use judge::Verdict;
+use judge::judge;
+
+// What the filter answers, in numbers: 0 planned, 1 no plan, else the refusal's; what does not apply is 0.
+#[repr(C)]
+pub struct AnswerNumbers {
+    pub code: u16,
+    pub slot: usize,
+    pub windows_least: u16,
+    pub windows_most: u16,
+    pub covered_least: u16,
+    pub covered_most: u16,
+}
+
+// What the judge answers, in numbers: 0 yes, 1 no, else the refusal's; the counts are 0 unless it says yes.
+#[repr(C)]
+pub struct VerdictNumbers {
+    pub code: u16,
+    pub windows: u16,
+    pub covered: u16,
+}
+
+#[no_mangle]
+pub extern "C" fn icecoppice_filter(
+    k: i32,
+    len: u16,
+    h: u16,
+    windows_least: u16,
+    windows_most: u16,
+    covered_least: u16,
+    covered_most: u16,
+    lowest: &mut [i32],
+    highest: &mut [i32],
+    marks: &mut [u8],
+) -> AnswerNumbers
+    ensures { λ r. ⌜ Answered
+        (asked (settingsOf k len h «windows_least» «windows_most» «covered_least» «covered_most»)
+        (now (lowest .entry)) (now (highest .entry)) (now (marks .entry)))
+        r (now (lowest .exit)) (now (highest .exit)) (now (marks .exit)) ⌝ }
+{
+    let settings = gather(
+        k,
+        len,
+        h,
+        windows_least,
+        windows_most,
+        covered_least,
+        covered_most,
+    );
+    let answer = filter(settings, lowest, highest, marks);
+    answer_numbers(answer)
+}
+
+#[no_mangle]
+pub extern "C" fn icecoppice_judge(
+    k: i32,
+    len: u16,
+    h: u16,
+    windows_least: u16,
+    windows_most: u16,
+    covered_least: u16,
+    covered_most: u16,
+    loads: &[i32],
+    marks: &[u8],
+) -> VerdictNumbers
+    ensures { λ r. ⌜ r ≡ verdictOf (judgment
+        (settingsOf k len h «windows_least» «windows_most» «covered_least» «covered_most»)
+        (now (loads .entry)) (now (marks .entry))) ⌝ }
+{
+    let settings = gather(
+        k,
+        len,
+        h,
+        windows_least,
+        windows_most,
+        covered_least,
+        covered_most,
+    );
+    let verdict = judge(settings, loads, marks);
+    verdict_numbers(verdict)
+}
+
+fn gather(
+    k: i32,
+    len: u16,
+    h: u16,
+    windows_least: u16,
+    windows_most: u16,
+    covered_least: u16,
+    covered_most: u16,
+) -> Settings
+    ensures { λ r. ⌜ r ≡ settingsOf k len h «windows_least» «windows_most» «covered_least» «covered_most» ⌝ }
+{
+    Settings {
+        k,
+        len,
+        h,
+        windows: CountRange {
+            least: windows_least,
+            most: windows_most,
+        },
+        covered: CountRange {
+            least: covered_least,
+            most: covered_most,
+        },
+    }
+}
+
+fn answer_numbers(answer: Answer) -> AnswerNumbers
+    ensures { λ r. ⌜ r ≡ answerOf (Answers·told answer) ⌝ }
+{
+    match answer {
+        Answer::Refused(refusal) => without_counts(refusal.number(), 0),
+        Answer::Crossed(slot) => without_counts(31, slot),
+        Answer::NoPlan => without_counts(1, 0),
+        Answer::Planned { windows, covered } => AnswerNumbers {
+            code: 0,
+            slot: 0,
+            windows_least: windows.least,
+            windows_most: windows.most,
+            covered_least: covered.least,
+            covered_most: covered.most,
+        },
+    }
+}
+
+fn without_counts(code: u16, slot: usize) -> AnswerNumbers
+    ensures { λ r. ⌜ r ≡ withoutCounts code slot ⌝ }
+{
+    AnswerNumbers {
+        code,
+        slot,
+        windows_least: 0,
+        windows_most: 0,
+        covered_least: 0,
+        covered_most: 0,
+    }
+}
+
+fn verdict_numbers(verdict: Verdict) -> VerdictNumbers
+    ensures { λ r. ⌜ r ≡ verdictOf (Judgment·told verdict) ⌝ }
+{
+    match verdict {
+        Verdict::Yes { windows, covered } => VerdictNumbers {
+            code: 0,
+            windows,
+            covered,
+        },
+        Verdict::No => VerdictNumbers {
+            code: 1,
+            windows: 0,
+            covered: 0,
+        },
+        Verdict::Refused(refusal) => VerdictNumbers {
+            code: refusal.number(),
+            windows: 0,
+            covered: 0,
+        },
+    }
+}

@@ -1,0 +1,98 @@
+-- Slots from the first on: where ranges cross (the loop of `filter::classes::first_crossed`), and what each slot can be (that of
+-- `filter::classes::classify`).
+use Prim.Native.Nat.{ℕ, suc, _+_, _≤_, _<_}
+use native.Mathlib.Nat.{eq-or-lt-of-le}
+use native.Mathlib.Numerals.{add-one}
+use native.Mathlib.Omega.{arith}
+use mathlib.Core.Bool.{true, false, cond}
+use mathlib.Core.List.{List, map}
+use mathlib.Core.Logic.{⊎-elim}
+use mathlib.Core.Option.{none, some}
+use mathlib.Core.Path.{_≡_, refl, sym, _∙_, subst}
+use lib.IntN.{ℤ, pos}
+use lib.ListN.{length, drop, take, getD, set, replicate, drop-of-length-le, length-map, length-set, length-replicate}
+use lib.Seq.{drop-cons, ext-getD, getD-set-same, getD-set-other, length-take-le}
+use lib.Signed.{ltZ}
+use Rattle.judge.specs.Ranges.{under-only, classOf}
+use Rattle.judge.specs.Refusals.{limit}
+use Rattle.requests.proofs.Choices.{paired-length}
+use Rattle.filter.proofs.Coding.{code-at}
+use Rattle.requests.proofs.Narrowing.{class-at}
+use Rattle.filter.specs.Codes.{coded, decoded}
+use Rattle.requests.specs.Request.{range, at, paired, crossed}
+
+-- Before slot i no ranges cross.
+pub record Uncrossed (los his : List ℤ) (i : ℕ) : Type 0 where
+  pub inside : i ≤ length los
+  pub same : crossed i (paired (drop i los) (drop i his)) ≡ crossed 0 (paired los his)
+
+module _ {los his : List ℤ} where
+  pub none-met : Uncrossed los his 0
+  none-met = record { inside = omega arith; same = refl }
+
+  module _ (i : ℕ) (wide : length his ≡ length los) (u : Uncrossed los his i) where
+    -- slot i crosses, or the first crossing is behind it
+    one-met : i < length los →
+        cond (ltZ (at his i) (at los i)) (some i) (crossed (suc i) (paired (drop (suc i) los) (drop (suc i) his)))
+        ≡ crossed 0 (paired los his)
+    unfolding crossed
+    one-met e = rw (drop-cons los i (pos 0) e, drop-cons his i (pos 0) (omega arith)) at (u .same)
+
+    pub met-here : i < length los → ltZ (at his i) (at los i) ≡ true → some i ≡ crossed 0 (paired los his)
+    met-here e c = rw c at (one-met e)
+
+    pub met-later : i < length los → ltZ (at his i) (at los i) ≡ false → Uncrossed los his (i + 1)
+    met-later e c = rw add-one (record { inside = e; same = rw c at (one-met e) })
+
+    pub met-nowhere : length los ≤ i → none ≡ crossed 0 (paired los his)
+    unfolding crossed
+    met-nowhere e = rw (drop-of-length-le los {i = i} e) at (u .same)
+
+-- what holds of the places before i, and of the value written to place i, holds of the places before i + 1
+pub written : {A : Type 0} (P : ℕ → A → Type 0) (l : List A) (i : ℕ) (v d : A) → i < length l →
+    ((j : ℕ) → j < i → P j (getD l j d)) → P i v → (j : ℕ) → j < i + 1 → P j (getD (set l i v) j d)
+written P l i v d e before here j b =
+    let most : j ≤ i = omega arith in
+    ⊎-elim
+    (λ s. subst (λ j. P j (getD (set l i v) j d)) (sym s) (subst (P i) (sym (getD-set-same l i v d e)) here))
+    (λ b. subst (P j) (sym (getD-set-other l i j v d (omega (arith, b)))) (before j b))
+    (eq-or-lt-of-le most)
+
+-- The slots before i have their classes.
+pub record Classed (k : ℤ) (los his : List ℤ) (codes : List ℕ) (i : ℕ) : Type 0 where
+  pub inside : i ≤ length los
+  pub wide : length codes ≡ limit
+  pub classes : (j : ℕ) → j < i → coded (getD codes j 0) ≡ classOf k (range (at los j) (at his j))
+
+module _ {k : ℤ} {los his : List ℤ} where
+  pub none-classed : Classed k los his (replicate 64 0) 0
+  none-classed = record { inside = omega arith; wide = length-replicate {A = ℕ} 64 0; classes = λ j l. absurd (omega arith) }
+
+  module _ (short : length los ≤ limit) (codes : List ℕ) (i : ℕ) (f : Classed k los his codes i) where
+    pub one-classed : (v : ℕ) → i < length los → coded v ≡ classOf k (range (at los i) (at his i)) →
+        Classed k los his (set codes i v) (i + 1)
+    one-classed v e is =
+        record {
+          inside = omega arith;
+          wide = length-set codes i v ∙ f .wide;
+          classes = written Right codes i v 0 (omega (arith, f .wide)) (f .classes) is;
+        }
+      where
+        Right : ℕ → ℕ → Type 0
+        Right j m = coded m ≡ classOf k (range (at los j) (at his j))
+
+    pub all-classed : length his ≡ length los → length los ≤ i →
+        (length codes ≡ limit) × (decoded (take (length los) codes) ≡ map (classOf k) (paired los his))
+    all-classed same e = (f .wide, ext-getD under-only _ _ (coded-length ∙ sym ranges-length) alike)
+      where
+        coded-length : length (decoded (take (length los) codes)) ≡ length los
+        coded-length = length-map (take (length los) codes) coded ∙ length-take-le (length los) codes (omega (arith, f .wide))
+
+        ranges-length : length (map (classOf k) (paired los his)) ≡ length los
+        ranges-length = length-map (paired los his) (classOf k) ∙ paired-length los his (sym same)
+
+        alike : (j : ℕ) → j < length (decoded (take (length los) codes)) →
+            getD (decoded (take (length los) codes)) j under-only ≡ getD (map (classOf k) (paired los his)) j under-only
+        alike j l =
+            let there : j < length los = omega (arith, l, coded-length) in
+            code-at codes (length los) j there ∙ f .classes j (omega arith) ∙ sym (class-at k los his j there (omega arith))

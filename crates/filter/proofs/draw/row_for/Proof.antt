@@ -1,0 +1,22 @@
+-- `filter::draw::row_for` meets its contract: the row is the one that `rows` gave.
+use native.Mathlib.Omega.{arith}
+use borrow.Author.Needs.{needs}
+use Rattle.filter.proofs.draw.row_for.Statement.{statement}
+use Rattle.filter.proofs.draw.row_for.Tie as tie
+
+returns : tie.Need-returns
+returns c = search needs
+
+add-rows : tie.Need-add-rows
+add-rows c = search needs
+
+rows-requires : tie.Need-rows-requires
+rows-requires c κs = search needs
+
+returns-2 : tie.Need-returns-2
+returns-2 c =
+    let (behind, first) = c .before .rows .ensures in
+    (behind .wide, (λ opened. behind), (λ n. absurd (n (omega arith))))
+
+pub row-for-spec : {M : Type 1} → statement M
+row-for-spec = tie.close (tie.spec returns add-rows rows-requires returns-2)

@@ -1,0 +1,34 @@
+-- `filter::narrow::left` meets its contract: the classes that `low` is given are those with the slot settled (`Cutting`).
+use native.Mathlib.Omega.{arith}
+use mathlib.Core.Path.{refl, sym}
+use borrow.Author.Needs.{needs}
+use lib.ListN.{length-set}
+use Rattle.filter.proofs.Cutting.{settled, settled-length}
+use Rattle.requests.specs.Solution.{possible}
+use Rattle.filter.proofs.narrow.left.Statement.{statement}
+use Rattle.filter.proofs.narrow.left.Tie as tie
+
+array-write-settled : tie.Need-array-write-settled
+array-write-settled c = search needs
+
+array-share-prefix-settled : tie.Need-array-share-prefix-settled
+array-share-prefix-settled c = omega (arith, length-set (c .args .codes) (c .args .i) (c .args .class))
+
+slice-aggregate-low : tie.Need-slice-aggregate-low
+slice-aggregate-low c =
+    let args = c .before .args in
+    sym (settled-length (args .codes) (args .n) (args .i) (args .class) (omega arith))
+
+low-requires : tie.Need-low-requires
+low-requires c κs =
+    let args = c .before .args in
+    (omega (arith, settled-length (args .codes) (args .n) (args .i) (args .class) (omega arith)), omega arith)
+
+returns : tie.Need-returns
+unfolding possible
+returns c =
+    let args = c .before .before .before .before .args in
+    rw (c .before .before .low .ensures .1, settled (args .codes) (args .n) (args .i) (args .class) (omega arith)) refl
+
+pub left-spec : {M : Type 1} → statement M
+left-spec = tie.close (tie.spec array-write-settled array-share-prefix-settled slice-aggregate-low low-requires returns)

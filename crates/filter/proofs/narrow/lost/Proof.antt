@@ -1,0 +1,48 @@
+-- `filter::narrow::lost` meets its contract: its tests are the definition's (`Cutting`).
+use native.Mathlib.Omega.{arith}
+use mathlib.Core.Logic.{inl, inr, ⊎-elim}
+use borrow.Author.Needs.{needs}
+use borrow.Author.Tests.{eqb-true}
+use Rattle.filter.proofs.Cutting.{settled-loss, losses}
+use Rattle.filter.proofs.narrow.lost.Statement.{statement}
+use Rattle.filter.proofs.narrow.lost.Tie as tie
+
+array-read-if1 : tie.Need-array-read-if1
+array-read-if1 c = search needs
+
+array-read-if2 : tie.Need-array-read-if2
+array-read-if2 c = search needs
+
+returns : tie.Need-returns
+returns c =
+    let args = c .before .args in
+    settled-loss (args .settings) (args .t2) (args .n) (args .i) (omega arith)
+    (⊎-elim (λ t. inl (t .taken)) (λ t. inr (eqb-true _ _ (t .1 .taken))) (c .if1 .came))
+
+left-requires : tie.Need-left-requires
+left-requires c κs = search needs
+
+returns-2 : tie.Need-returns-2
+returns-2 c = search losses depth 7
+
+left-requires-2 : tie.Need-left-requires-2
+left-requires-2 c κs = search needs
+
+returns-3 : tie.Need-returns-3
+returns-3 c = search losses depth 7
+
+returns-4 : tie.Need-returns-4
+returns-4 c = search losses depth 7
+
+pub lost-spec : {M : Type 1} → statement M
+lost-spec =
+    tie.close
+    (tie.spec
+    array-read-if1
+    array-read-if2
+    returns
+    left-requires
+    returns-2
+    left-requires-2
+    returns-3
+    returns-4)

@@ -1,0 +1,24 @@
+-- The filter's answers in document 01's words and numbers, for its contract.
+use Prim.Native.Nat.{ℕ}
+use mathlib.Core.List.{List}
+use lib.IntN.{ℤ}
+use Rattle.judge.specs.Refusals.{number}
+use Rattle.judge.specs.declared.settings.Settings.{Settings}
+use Rattle.requests.specs.Promise.{Answer as Promised, refuses, no-plan, planned, Outcome}
+use Rattle.requests.specs.Request.{Request, numbered, at-slot}
+use Rattle.filter.specs.declared.Answer.{Answer}
+use Rattle.filter.specs.declared.Answer.the-variants.{Refused, Crossed, NoPlan, Planned}
+
+-- 31 is the refusal that only the filter gives
+abbrev pub told : Answer → Promised
+told (Refused r) = refuses (numbered (number r))
+told (Crossed slot) = refuses (at-slot 31 slot)
+told NoPlan = no-plan
+told (Planned w c) = planned w c
+
+-- what is given, and what comes back
+abbrev pub asked : Settings → (lowest highest : List ℤ) (marks : List ℕ) → Request
+asked s lo hi ms = record { settings = s; lowest = lo; highest = hi; marks = ms }
+
+abbrev pub handed : Answer → (lowest highest : List ℤ) (marks : List ℕ) → Outcome
+handed a lo hi ms = record { answer = told a; lowest = lo; highest = hi; marks = ms }

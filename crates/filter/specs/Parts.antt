@@ -1,0 +1,25 @@
+-- The words of the private functions' enums: where ranges cross, and what a slot loses.
+use Prim.Native.Nat.{ℕ}
+use mathlib.Core.Option.{Option, none, some}
+use lib.IntN.{ℤ}
+use lib.Signed.{_≤ℤ_, _<ℤ_}
+use Rattle.requests.specs.Promise.{Loss, nothing, under-part, over-part}
+use Rattle.filter.specs.declared.classes.Crossing.{Crossing}
+use Rattle.filter.specs.declared.classes.Crossing.the-variants.{At, Nowhere}
+use Rattle.filter.specs.declared.narrow.Part.{Part}
+use Rattle.filter.specs.declared.narrow.Part.the-variants.{Nothing, Under, Over}
+
+abbrev pub met : Crossing → Option ℕ
+met (At i) = some i
+met Nowhere = none
+
+abbrev pub losing : Part → Loss
+losing Nothing = nothing
+losing Under = under-part
+losing Over = over-part
+
+-- a slot that loses a part is open
+abbrev pub Loses : ℤ → Part → (lowest highest : ℤ) → Type 0
+Loses k Nothing lo hi = Unit
+Loses k Under lo hi = (lo ≤ℤ k) × (k <ℤ hi)
+Loses k Over lo hi = (lo ≤ℤ k) × (k <ℤ hi)

@@ -1,0 +1,83 @@
+-- The promise decides the answer and both load slices.
+use Prim.Native.Nat.{ℕ, _≤_, _<_}
+use native.Mathlib.Nat.{le-antisymm}
+use native.Mathlib.Omega.{arith}
+use mathlib.Core.List.{List}
+use mathlib.Core.Option.{Option·some-ne-none, Option·some-injective}
+use mathlib.Core.Path.{_≡_, refl, sym, ap, _∙_}
+use lib.IntN.{ℤ, pos}
+use lib.Seq.{ext-getD}
+use lib.Signed.{_≤ℤ_, ≤ℤ-refl}
+use Rattle.judge.specs.declared.settings.CountRange.{CountRange}
+use Rattle.requests.proofs.Choices.{in-slots}
+use Rattle.requests.proofs.Integers.{≤ℤ-trans, ≤ℤ-antisym}
+use Rattle.requests.specs.Promise.{Answer, refuses, no-plan, planned, Outcome, Held, Unaltered, Raised, Planned, Answers, Keeps, Alike}
+use Rattle.requests.specs.Request.{Request, slots, at, LeastOver}
+
+-- nothing is altered in either
+unaltered : {r : Request} {o p : Outcome} → o .answer ≡ p .answer → Unaltered r o → Unaltered r p → Alike o p
+unaltered e u v = record { answer = e; lowest = u .lowest ∙ sym (v .lowest); highest = u .highest ∙ sym (v .highest) }
+
+no-larger : (count : List ℕ → ℕ) {P : List ℕ → Type 0} (v w : ℕ) → LeastOver P count v → LeastOver P count w → v ≤ w
+no-larger count v w a b = let (ms, p, e) = b .met in omega (arith, e, a .least ms p)
+
+same-range : (w w′ : CountRange) → w .least ≡ w′ .least → w .most ≡ w′ .most → w ≡ w′
+same-range w w′ e f = ap (λ n. record { least = n; most = w .most }) e ∙ ap (λ n. record { least = w′ .least; most = n }) f
+
+module _ (r : Request) where
+  same-counts : (count : List ℕ → ℕ) (given w w′ : CountRange) → Raised r count given w → Raised r count given w′ → w ≡ w′
+  same-counts count given w w′ a b =
+      let v : a .value ≡ b .value =
+      le-antisymm (no-larger count _ _ (a .least) (b .least)) (no-larger count _ _ (b .least) (a .least)) in
+      same-range w w′ (omega (arith, a .minimum, b .minimum)) (omega (arith, a .maximum, b .maximum))
+
+  module _ (o p : Outcome) (w c w′ c′ : CountRange) (a : Planned r w c o) (b : Planned r w′ c′ p) (i : ℕ) (h : i < slots r) where
+    -- some load is held at each slot
+    held : at (o .lowest) i ≤ℤ at (o .highest) i
+    held =
+        let (lo, hi) = in-slots (o .lowest) (o .highest) (a .drawn .loads) i
+        (omega (arith, h, a .lowest-length)) (omega (arith, h, a .highest-length)) (a .drawn .chosen) in
+        ≤ℤ-trans lo hi
+
+    moves : (x : ℤ) → Held o i x → Held p i x
+    moves x m = b .narrowed i h .exact x .1 (a .narrowed i h .exact x .0 m)
+
+    lower : at (p .lowest) i ≤ℤ at (o .lowest) i
+    lower = moves _ (≤ℤ-refl _, held) .0
+
+    higher : at (o .highest) i ≤ℤ at (p .highest) i
+    higher = moves _ (held, ≤ℤ-refl _) .1
+
+  module _ (o p : Outcome) (w c w′ c′ : CountRange) (e : o .answer ≡ planned w c) (f : p .answer ≡ planned w′ c′)
+      (a : Planned r w c o) (b : Planned r w′ c′ p) where
+    both-planned : Alike o p
+    both-planned =
+        record {
+          answer =
+              e
+              ∙ ap (λ w. planned w c) (same-counts _ _ w w′ (a .windows) (b .windows))
+              ∙ ap (planned w′) (same-counts _ _ c c′ (a .covered) (b .covered))
+              ∙ sym f;
+          lowest = ext-getD (pos 0) _ _ (a .lowest-length ∙ sym (b .lowest-length))
+              (λ i h.
+              let h′ : i < slots r = omega (arith, h, a .lowest-length) in
+              ≤ℤ-antisym (lower p o w′ c′ w c b a i h′) (lower o p w c w′ c′ a b i h′));
+          highest = ext-getD (pos 0) _ _ (a .highest-length ∙ sym (b .highest-length))
+              (λ i h.
+              let h′ : i < slots r = omega (arith, h, a .highest-length) in
+              ≤ℤ-antisym (higher o p w c w′ c′ a b i h′) (higher p o w′ c′ w c b a i h′));
+        }
+
+pub alike : (r : Request) (o p : Outcome) → Keeps r o → Keeps r p → Alike o p
+alike r o p k l = by (o .answer) (p .answer) refl refl k l
+  where
+    by : (a b : Answer) → o .answer ≡ a → p .answer ≡ b → Answers r a o → Answers r b p → Alike o p
+    by (refuses f) (refuses g) e d (x, u) (y, v) = unaltered (e ∙ ap refuses (Option·some-injective _ _ (sym x ∙ y)) ∙ sym d) u v
+    by (refuses f) no-plan e d (x, u) (y, n, v) = absurd (Option·some-ne-none _ (sym x ∙ y))
+    by (refuses f) (planned w c) e d (x, u) (y, q) = absurd (Option·some-ne-none _ (sym x ∙ y))
+    by no-plan (refuses g) e d (x, n, u) (y, v) = absurd (Option·some-ne-none _ (sym y ∙ x))
+    by no-plan no-plan e d (x, n, u) (y, m, v) = unaltered (e ∙ sym d) u v
+    by no-plan (planned w c) e d (x, n, u) (y, q) = let (ms, plan, _) = q .windows .least .met in absurd (n ms plan)
+    by (planned w c) (refuses g) e d (x, q) (y, v) = absurd (Option·some-ne-none _ (sym y ∙ x))
+    by (planned w c) no-plan e d (x, q) (y, n, v) = let (ms, plan, _) = q .windows .least .met in absurd (n ms plan)
+    by (planned w c) (planned w′ c′) e d (x, q) (y, s) = both-planned r o p w c w′ c′ e d q s

@@ -1,0 +1,61 @@
+-- Every case of specs/Cases.antt keeps the promise: `best` is computed for all of them at once.
+use Prim.Native.Nat.{ℕ}
+use mathlib.Core.Bool.{Bool, true, not, _&&_, _||_}
+use mathlib.Core.List.{List, [], _∷_, map}
+use mathlib.Core.Path.{_≡_, refl, ap, subst}
+use borrow.Author.Tests.{leb-true}
+use lib.Dec.{leb}
+use lib.ListN.{getD, drop}
+use Rattle.judge.proofs.Ranges.{by-classes}
+use Rattle.judge.proofs.Rules.{both}
+use Rattle.requests.proofs.Keeping.{keeps}
+use Rattle.requests.proofs.Requests.{formed}
+use Rattle.requests.specs.Best.{best, fewest}
+use Rattle.requests.specs.Cases.{Case, cases, Kept}
+use Rattle.requests.specs.Promise.{Outcome, Keeps}
+use Rattle.requests.specs.Request.{Request, ranges, refused, crossed, WellFormed, PlanOf}
+use Rattle.requests.specs.Solution.{classes, possible, loss, outcome}
+use Rattle.judge.specs.Ranges.{classOf, allows}
+use Rattle.judge.specs.Refusals.{first, wrongSlots, wrongOther, wrongLength, wrongBridges, wrongCounts, refusalBy, refusal}
+use Rattle.judge.specs.Rule.{over, goesWith, agrees, follows, ordered, rest, drawn, count, keeps as Rule·keeps, every, legalBy, windows, covered}
+
+-- marks that are a plan of the request, where there is one
+unfoldable fitting : Request → List ℕ → Bool
+fitting r ms =
+    let s = r .settings in
+    not (possible s (classes r))
+    || (legalBy allows (s .len) (s .h) (classes r) ms
+    && (leb (windows ms) (s .windows .most) && leb (covered ms) (s .covered .most)))
+
+fitting→plan : (r : Request) (ms : List ℕ) → fitting r ms ≡ true →
+    WellFormed r → possible (r .settings) (classes r) ≡ true → PlanOf r ms
+unfolding fitting
+fitting→plan r ms e w p =
+    let s = r .settings in
+    let (in-rule, fit) = both (legalBy allows (s .len) (s .h) (classes r) ms) _ (rw p at e) in
+    let (few, short) = both (leb (windows ms) (s .windows .most)) (leb (covered ms) (s .covered .most)) fit in
+    record {
+      in-rule = by-classes (s .k) (s .len) (s .h) (ranges r) ms (formed .0 w .proper) .1 in-rule;
+      windows-fit = leb-true _ _ few;
+      covered-fit = leb-true _ _ short;
+    }
+
+-- what is computed, and what is stated
+abbrev computed : Case → Outcome × Bool
+computed c = (outcome (c .request) (c .outcome .marks), fitting (c .request) (c .outcome .marks))
+
+abbrev stated : Case → Outcome × Bool
+stated c = (c .outcome, true)
+
+each : (cs : List Case) → map computed cs ≡ map stated cs → Kept cs
+each [] e = tt
+each (c ∷ cs) e =
+    let here : computed c ≡ stated c = ap (λ l. getD l 0 (stated c)) e in (
+      subst (Keeps (c .request)) (ap (λ p. p .0) here)
+          (keeps (c .request) (c .outcome .marks) (fitting→plan (c .request) (c .outcome .marks) (ap (λ p. p .1) here))),
+      each cs (ap (drop 1) e),
+    )
+
+pub all-kept : Kept cases
+unfolding cases outcome refused crossed refusal refusalBy first wrongSlots wrongOther wrongLength wrongBridges wrongCounts possible loss fewest best classOf allows over goesWith fitting legalBy agrees follows ordered rest drawn count every windows covered Rule·keeps
+all-kept = each cases refl

@@ -1,0 +1,85 @@
+-- Loosening a request never takes away a plan, a load or a lower count.
+use Prim.Native.Nat.{ℕ, _≤_, _<_}
+use native.Mathlib.Omega.{arith}
+use mathlib.Core.List.{List}
+use mathlib.Core.Path.{_≡_, sym, _∙_, subst}
+use mathlib.Core.Bool.{true}
+use lib.IntN.{ℤ}
+use Rattle.judge.proofs.Loosening.{loosened}
+use Rattle.judge.specs.Ranges.{ChosenIn}
+use Rattle.judge.specs.Rule.{carries, legal, windows, covered}
+use Rattle.judge.specs.declared.settings.CountRange.{CountRange}
+use Rattle.requests.proofs.Choices.{in-slots, from-slots}
+use Rattle.requests.proofs.Integers.{≤ℤ-trans}
+use Rattle.requests.proofs.Outcomes.{planned-so, planned-where}
+use Rattle.requests.proofs.Requests.{formed, width, chosen-slots}
+use Rattle.requests.specs.Demand3.{Wider, Looser, Loosens, LoosensAnswer}
+use Rattle.requests.specs.Promise.{Raised, planned, Outcome, Keeps}
+use Rattle.requests.specs.Request.{Request, slots, ranges, WellFormed, PlanOf, LeftAt, LeastOver}
+
+module _ (t l : Request) (t-formed : WellFormed t) (l-formed : WellFormed l) (looser : Looser l t) where
+  chosen : (xs : List ℤ) → ChosenIn (ranges t) xs → ChosenIn (ranges l) xs
+  chosen xs c =
+      let n = chosen-slots t (formed .0 t-formed) xs c in
+      from-slots xs (l .lowest) (l .highest) (looser .as-many ∙ sym n) (width l (formed .0 l-formed) ∙ looser .as-many ∙ sym n)
+      (λ i h.
+      let there : i < slots t = omega (arith, h, n) in
+      let (lo, hi) = in-slots (t .lowest) (t .highest) xs i there (omega (arith, there, width t (formed .0 t-formed))) c in
+      let (lo′, hi′) = looser .contains i there in
+      (≤ℤ-trans lo′ lo, ≤ℤ-trans hi hi′))
+
+  in-rule : (xs : List ℤ) (ms : List ℕ) → legal (t .settings .k) (t .settings .len) (t .settings .h) xs ms ≡ true →
+      legal (l .settings .k) (l .settings .len) (l .settings .h) xs ms ≡ true
+  in-rule xs ms e =
+      subst (λ k. legal k (l .settings .len) (l .settings .h) xs ms ≡ true) (sym (looser .threshold))
+      (loosened (looser .len) (looser .h) (carries (t .settings .k)) xs ms e)
+
+  plans : (ms : List ℕ) → PlanOf t ms → PlanOf l ms
+  plans ms p =
+      let (xs, c, e) = p .in-rule in
+      record {
+        in-rule = (xs, chosen xs c, in-rule xs ms e);
+        windows-fit = omega (arith, p .windows-fit, looser .windows .most);
+        covered-fit = omega (arith, p .covered-fit, looser .covered .most);
+      }
+
+  loads : (i : ℕ) (x : ℤ) → LeftAt t i x → LeftAt l i x
+  loads i x m =
+      record {
+        loads = m .loads;
+        marks = m .marks;
+        chosen = chosen (m .loads) (m .chosen);
+        plan = plans (m .marks) (m .plan);
+        in-rule = in-rule (m .loads) (m .marks) (m .in-rule);
+        there = m .there;
+        occurs = m .occurs;
+      }
+
+  no-higher : (count : List ℕ → ℕ) (v w : ℕ) → LeastOver (PlanOf t) count v → LeastOver (PlanOf l) count w → w ≤ v
+  no-higher count v w a b = let (ms, p, e) = a .met in omega (arith, e, b .least ms (plans ms p))
+
+  pub loosening : Loosens t l
+  loosening = record { plans = plans; loads = loads; windows = no-higher windows; covered = no-higher covered }
+
+  minimum : (count : List ℕ → ℕ) (given given′ w w′ : CountRange) → Wider given′ given →
+      Raised t count given w → Raised l count given′ w′ → w′ .least ≤ w .least
+  minimum count given given′ w w′ g a b =
+      let e = no-higher count (a .value) (b .value) (a .least) (b .least) in
+      omega (arith, e, g .least, a .minimum, b .minimum)
+
+  pub loosening-answers : (first second : Outcome) → Keeps t first → Keeps l second →
+      (w c : CountRange) → first .answer ≡ planned w c → LoosensAnswer t first second w c
+  loosening-answers first second k k′ w c e =
+      let p = planned-so t first k w c e in
+      let (ms, plan, _) = p .windows .least .met in
+      let q = planned-where l second k′ l-formed ms (plans ms plan) in
+      record {
+        w′ = q .windows;
+        c′ = q .covered;
+        answer = q .answer;
+        loads = λ i h x m.
+            let h′ : i < slots l = omega (arith, h, looser .as-many) in
+            q .promise .narrowed i h′ .exact x .1 (loads i x (p .narrowed i h .exact x .0 m));
+        windows = minimum windows _ _ w (q .windows) (looser .windows) (p .windows) (q .promise .windows);
+        covered = minimum covered _ _ c (q .covered) (looser .covered) (p .covered) (q .promise .covered);
+      }

@@ -1,0 +1,188 @@
+-- A well formed request as facts, and its plans and the loads left to it by the classes of its slots.
+use Prim.Native.Nat.{ℕ, suc, _-_, _≤_, _<_}
+use native.Mathlib.Nat.{le-refl}
+use native.Mathlib.Omega.{arith}
+use mathlib.Core.Bool.{Bool, true, false, cond, not}
+use mathlib.Core.List.{List, [], _∷_, map}
+use mathlib.Core.Logic.{_↔_}
+use mathlib.Core.Option.{Option, none, some, Option·some-ne-none}
+use mathlib.Core.Path.{_≡_, refl, sym, _∙_, subst}
+use borrow.Author.Tests.{leb-true, le-leb}
+use lib.Dec.{T}
+use lib.IntN.{ℤ}
+use lib.ListN.{length, set, length-map}
+use lib.Signed.{ltZ, _≤ℤ_, ltZ-no, ltZ-yes, clashℤ, ≤ℤ-refl}
+use Rattle.judge.proofs.Passing.{Passing, passing}
+use Rattle.judge.proofs.Ranges.{by-classes}
+use Rattle.judge.proofs.Rules.{refuted}
+use Rattle.judge.specs.Ranges.{Range, Proper, ChosenIn, LegalFor, Class, under-only, over-only, either, classOf, allows}
+use Rattle.judge.specs.Rule.{over, legal, legalBy, windows, covered}
+use Rattle.judge.specs.declared.settings.Settings.{Settings}
+use Rattle.requests.proofs.Choices.{chosen-length, paired-length, paired-set, in-slots, pin, unpin, replaced-proper, replaced-class}
+use Rattle.requests.proofs.Exact.{Fits}
+use Rattle.requests.proofs.Least.{exists→enough, enough→exists}
+use Rattle.requests.specs.Request.{range, Request, slots, ranges, at, paired, crossed, behind, refused, WellFormed, PlanOf, UnlimitedPlanOf, LeftAt}
+use Rattle.requests.specs.Solution.{sentinel, classes, possible}
+
+-- what is known of a request that is not refused
+pub record Formed (r : Request) : Type 0 where
+  pub pass : Passing (slots r) (length (r .highest) ∷ length (r .marks) ∷ []) (r .settings)
+  pub proper : Proper (ranges r)
+
+uncrossed→proper : (i : ℕ) (rs : List Range) → crossed i rs ≡ none → Proper rs
+unfolding crossed
+uncrossed→proper i [] e = tt
+uncrossed→proper i (r ∷ rs) e = by (ltZ (r .highest) (r .lowest)) refl e (uncrossed→proper (suc i) rs)
+  where
+    by : (b : Bool) → ltZ (r .highest) (r .lowest) ≡ b → cond b (some i) (crossed (suc i) rs) ≡ none →
+        (crossed (suc i) rs ≡ none → Proper rs) → Proper (r ∷ rs)
+    by true q e f = absurd (Option·some-ne-none _ e)
+    by false q e f = (ltZ-no (subst (λ b. T (not b)) (sym q) tt), f e)
+
+proper→uncrossed : (i : ℕ) (rs : List Range) → Proper rs → crossed i rs ≡ none
+unfolding crossed
+proper→uncrossed i [] p = refl
+proper→uncrossed i (r ∷ rs) (l, p) =
+    rw (refuted (ltZ (r .highest) (r .lowest)) (λ e. clashℤ (ltZ-yes (subst T (sym e) tt)) l)) (proper→uncrossed (suc i) rs p)
+
+apart : (a b : Option ℕ) → behind a b ≡ none → (a ≡ none) × (b ≡ none)
+apart (some n) b e = absurd (Option·some-ne-none _ e)
+apart none (some i) e = absurd (Option·some-ne-none _ e)
+apart none none e = (refl, refl)
+
+pub formed : {r : Request} → WellFormed r ↔ Formed r
+unfolding refused
+formed {r} = (to, from)
+  where
+    to : WellFormed r → Formed r
+    to e =
+        let (lengths, ends) = apart _ _ e in
+        record { pass = passing .0 lengths; proper = uncrossed→proper 0 _ ends }
+
+    from : Formed r → WellFormed r
+    from f = rw (passing .1 (f .pass), proper→uncrossed 0 _ (f .proper))
+
+-- 23 leaves a window length of at least 1
+room : (len : ℕ) → 1 ≤ len → suc (len - 1) ≡ len
+room len e = omega arith
+
+-- a slot that is on one side of the threshold
+abbrev pub one-side : Bool → Class
+one-side true = over-only
+one-side false = under-only
+
+module _ (r : Request) where
+  abbrev s : Settings
+  s = r .settings
+
+  -- marks that are plans of slots of these classes
+  abbrev pub FitsAt : List Class → List ℕ → Type 0
+  FitsAt cs = Fits (s .len - 1) (s .h) cs (s .windows .most) (s .covered .most)
+
+  module _ (formed : Formed r) where
+    legal-by : (rs : List Range) (ms : List ℕ) → Proper rs →
+        LegalFor (s .k) (s .len) (s .h) rs ms ↔ (legalBy allows (suc (s .len - 1)) (s .h) (map (classOf (s .k)) rs) ms ≡ true)
+    legal-by rs ms p =
+        rw (room (s .len) (formed .pass .length .0)) (by-classes (s .k) (s .len) (s .h) rs ms p)
+
+    -- 22 leaves slices of one length
+    pub width : length (r .highest) ≡ slots r
+    width = formed .pass .same .0
+
+    pub chosen-slots : (xs : List ℤ) → ChosenIn (ranges r) xs → length xs ≡ slots r
+    chosen-slots xs c = chosen-length (ranges r) xs c ∙ paired-length (r .lowest) (r .highest) (sym width)
+
+    pub class-slots : length (classes r) ≡ slots r
+    class-slots = length-map (ranges r) (classOf (s .k)) ∙ paired-length (r .lowest) (r .highest) (sym width)
+
+    -- 26 and 21 leave a covered maximum below the sentinel
+    pub small : s .covered .most < sentinel
+    small = omega (arith, formed .pass .covered .1, formed .pass .slots .1)
+
+    pub possible→fits : (cs : List Class) → possible s cs ≡ true → (ms : List ℕ) × FitsAt cs ms
+    unfolding possible
+    possible→fits cs e = enough→exists sentinel (s .len - 1) (s .h) cs _ _ small (leb-true _ _ e)
+
+    pub fits→possible : {cs : List Class} {ms : List ℕ} → FitsAt cs ms → possible s cs ≡ true
+    unfolding possible
+    fits→possible {cs} f = le-leb _ _ (exists→enough sentinel (s .len - 1) (s .h) cs _ _ f)
+
+    pub plan→fits : {ms : List ℕ} → PlanOf r ms → FitsAt (classes r) ms
+    plan→fits {ms} p =
+        record { in-rule = legal-by (ranges r) ms (formed .proper) .0 (p .in-rule); few = p .windows-fit; short = p .covered-fit }
+
+    pub fits→plan : {ms : List ℕ} → FitsAt (classes r) ms → PlanOf r ms
+    fits→plan {ms} f =
+        record { in-rule = legal-by (ranges r) ms (formed .proper) .1 (f .in-rule); windows-fit = f .few; covered-fit = f .short }
+
+    -- the loads left at slot i are those of its range with which a plan exists
+    module _ (i : ℕ) (x : ℤ) where
+      -- the ranges with slot i pinned to x
+      abbrev pinned : List Range
+      pinned = paired (set (r .lowest) i x) (set (r .highest) i x)
+
+      abbrev pub pinnedClasses : List Class
+      pinnedClasses = set (classes r) i (one-side (over (s .k) x))
+
+      pin-is : pinned ≡ set (ranges r) i (range x x)
+      pin-is = paired-set (r .lowest) (r .highest) i x x
+
+      pin-class : classOf (s .k) (range x x) ≡ one-side (over (s .k) x)
+      unfolding classOf
+      pin-class = by (over (s .k) x)
+        where
+          by : (b : Bool) → cond b over-only (cond b either under-only) ≡ one-side b
+          by true = refl
+          by false = refl
+
+      fits-pinned : (ms : List ℕ) → LegalFor (s .k) (s .len) (s .h) pinned ms ↔
+          (legalBy allows (suc (s .len - 1)) (s .h) pinnedClasses ms ≡ true)
+      fits-pinned ms =
+          rw (← replaced-class (ranges r) i x x pin-is (s .k) pin-class)
+          (legal-by pinned ms (replaced-proper (ranges r) i x x pin-is (≤ℤ-refl x) (formed .proper)))
+
+      pub left→possible : LeftAt r i x →
+          (i < slots r) × (at (r .lowest) i ≤ℤ x) × (x ≤ℤ at (r .highest) i) × (possible s pinnedClasses ≡ true)
+      left→possible l =
+          let there : i < slots r = omega (arith, l .there, chosen-slots (l .loads) (l .chosen)) in
+          let (lo, hi) = in-slots (r .lowest) (r .highest) (l .loads) i there (omega (arith, there, width)) (l .chosen) in
+          let chosen : ChosenIn pinned (l .loads) =
+          subst (λ x. ChosenIn (paired (set (r .lowest) i x) (set (r .highest) i x)) (l .loads)) (l .occurs)
+          (pin (r .lowest) (r .highest) (l .loads) i (l .chosen)) in
+          let f : FitsAt pinnedClasses (l .marks) = record {
+            in-rule = fits-pinned (l .marks) .0 (l .loads, chosen, l .in-rule);
+            few = l .plan .windows-fit;
+            short = l .plan .covered-fit;
+          } in (
+            there,
+            subst (λ x. at (r .lowest) i ≤ℤ x) (l .occurs) lo,
+            subst (λ x. x ≤ℤ at (r .highest) i) (l .occurs) hi,
+            fits→possible f,
+          )
+
+      pub possible→left : i < slots r → at (r .lowest) i ≤ℤ x → x ≤ℤ at (r .highest) i → possible s pinnedClasses ≡ true →
+          LeftAt r i x
+      possible→left p lo hi e =
+          let (ms, f) = possible→fits pinnedClasses e in
+          let (xs, c, legal) = fits-pinned ms .1 (f .in-rule) in
+          let (chosen, there, occurs) = unpin (r .lowest) (r .highest) xs i x p (omega (arith, p, width)) lo hi c in
+          record {
+            loads = xs;
+            marks = ms;
+            chosen = chosen;
+            plan = record { in-rule = (xs, chosen, legal); windows-fit = f .few; covered-fit = f .short };
+            in-rule = legal;
+            there = there;
+            occurs = occurs;
+          }
+
+    -- the same with the window maximum ignored
+    pub unlimited→fits : {ms : List ℕ} → UnlimitedPlanOf r ms →
+        Fits (s .len - 1) (s .h) (classes r) (windows ms) (s .covered .most) ms
+    unlimited→fits {ms} p =
+        record { in-rule = legal-by (ranges r) ms (formed .proper) .0 (p .in-rule); few = le-refl _; short = p .covered-fit }
+
+    pub fits→unlimited : (w : ℕ) {ms : List ℕ} → Fits (s .len - 1) (s .h) (classes r) w (s .covered .most) ms →
+        UnlimitedPlanOf r ms
+    fits→unlimited w {ms} f =
+        record { in-rule = legal-by (ranges r) ms (formed .proper) .1 (f .in-rule); covered-fit = f .short }

@@ -1,0 +1,183 @@
+-- A request with one open slot settled, and a request with the window maximum ignored.
+use Prim.Native.Nat.{ℕ, suc, _-_, _≤_}
+use native.Mathlib.Nat.{le-refl}
+use native.Mathlib.Omega.{arith}
+use mathlib.Core.List.{List, [], _∷_}
+use mathlib.Core.Path.{_≡_, sym, ap, _∙_, subst}
+use lib.IntN.{ℤ, pos, sucℤ}
+use lib.ListN.{length, set, length-set}
+use lib.Seq.{set-getD}
+use lib.Signed.{≤ℤ-refl}
+use Rattle.judge.proofs.Loads.{lt→over, le→under}
+use Rattle.judge.proofs.Onward.{as-long}
+use Rattle.judge.proofs.Passing.{Passing, beside}
+use Rattle.judge.proofs.Tally.{windows-le}
+use Rattle.judge.specs.Ranges.{under-only, over-only, classOf}
+use Rattle.judge.specs.Rule.{carries, windows, covered}
+use Rattle.requests.proofs.Choices.{paired-set, replaced-proper, replaced-class}
+use Rattle.requests.proofs.Integers.{lt→suc-le, le→lt-suc}
+use Rattle.requests.proofs.Outcomes.{planned-so, none-so, planned-where}
+use Rattle.requests.proofs.Requests.{Formed, formed, class-slots, chosen-slots, unlimited→fits, fits→unlimited}
+use Rattle.requests.proofs.Settling.{settled-under, settled-over}
+use Rattle.requests.specs.Demand3.{LeastUnlimited, Settles, unlimited, Counts, SettlesAnswer}
+use Rattle.requests.specs.Promise.{Outcome, Keeps}
+use Rattle.requests.specs.Request.{range, Request, slots, ranges, at, paired, PlanOf, UnlimitedPlanOf, LeastOver, Open, settledUnder, settledOver}
+
+-- the plans with the window maximum ignored are those of the window range 0 to n
+module _ (r : Request) (good : Formed r) where
+  pub unlimited-formed : Formed (unlimited r)
+  unlimited-formed =
+      record {
+        pass = record {
+          slots = good .pass .slots;
+          same = good .pass .same;
+          length = good .pass .length;
+          bridges = good .pass .bridges;
+          windows = (omega arith, le-refl _);
+          covered = good .pass .covered;
+        };
+        proper = good .proper;
+      }
+
+  pub from-unlimited : (ms : List ℕ) → UnlimitedPlanOf r ms → PlanOf (unlimited r) ms
+  from-unlimited ms p =
+      let (xs, c, e) = p .in-rule in
+      record {
+        in-rule = p .in-rule;
+        windows-fit = omega (arith, windows-le ms, as-long (carries (r .settings .k)) _ _ xs ms e, chosen-slots r good xs c);
+        covered-fit = p .covered-fit;
+      }
+
+  pub to-unlimited : (ms : List ℕ) → PlanOf (unlimited r) ms → UnlimitedPlanOf r ms
+  to-unlimited ms p = record { in-rule = p .in-rule; covered-fit = p .covered-fit }
+
+  pub least-unlimited : {v : ℕ} → LeastOver (PlanOf (unlimited r)) windows v → LeastUnlimited r v
+  least-unlimited l =
+      let (ms, p, e) = l .met in
+      record { met = (ms, to-unlimited ms p, e); least = λ ms p. l .least ms (from-unlimited ms p) }
+
+module _ (r : Request) (good : Formed r) (i : ℕ) (slot : Open r i) where
+  abbrev k : ℤ
+  k = r .settings .k
+
+  abbrev lo : ℤ
+  lo = at (r .lowest) i
+
+  abbrev hi : ℤ
+  hi = at (r .highest) i
+
+  under-ranges : ranges (settledUnder r i) ≡ set (ranges r) i (range lo k)
+  under-ranges =
+      ap (λ los. paired los (set (r .highest) i k)) (sym (set-getD (r .lowest) i (pos 0)))
+      ∙ paired-set (r .lowest) (r .highest) i lo k
+
+  over-ranges : ranges (settledOver r i) ≡ set (ranges r) i (range (sucℤ k) hi)
+  over-ranges =
+      ap (λ his. paired (set (r .lowest) i (sucℤ k)) his) (sym (set-getD (r .highest) i (pos 0)))
+      ∙ paired-set (r .lowest) (r .highest) i (sucℤ k) hi
+
+  under-class : classOf k (range lo k) ≡ under-only
+  unfolding classOf
+  under-class = rw (le→under (slot .low), le→under (≤ℤ-refl k))
+
+  over-class : classOf k (range (sucℤ k) hi) ≡ over-only
+  unfolding classOf
+  over-class = rw (lt→over (le→lt-suc (≤ℤ-refl k)))
+
+  under-formed : Formed (settledUnder r i)
+  under-formed =
+      record {
+        pass = beside (length-set (r .highest) i k ∙ good .pass .same .0, good .pass .same .1) (good .pass);
+        proper = replaced-proper (ranges r) i lo k under-ranges (slot .low) (good .proper);
+      }
+
+  over-formed : Formed (settledOver r i)
+  over-formed =
+      let others = length (r .highest) ∷ length (r .marks) ∷ [] in
+      record {
+        pass = subst (λ n. Passing n others (settledOver r i .settings)) (sym (length-set (r .lowest) i (sucℤ k))) (record {
+          slots = good .pass .slots;
+          same = good .pass .same;
+          length = good .pass .length;
+          bridges = good .pass .bridges;
+          windows = good .pass .windows;
+          covered = omega (arith, good .pass .covered);
+        });
+        proper = replaced-proper (ranges r) i (sucℤ k) hi over-ranges (lt→suc-le (slot .high)) (good .proper);
+      }
+
+  -- settling costs at most one more window
+  abbrev Step : Request → Type 0
+  Step q = (ms : List ℕ) → UnlimitedPlanOf r ms → (ms′ : List ℕ) × UnlimitedPlanOf q ms′ × (windows ms′ ≤ suc (windows ms))
+
+  under-step : Step (settledUnder r i)
+  under-step ms p =
+      let (ms′, f) = settled-under (r .settings .len - 1) (r .settings .h) i (unlimited→fits r good p) in (
+        ms′,
+        fits→unlimited (settledUnder r i) under-formed (suc (windows ms))
+            (rw (replaced-class (ranges r) i lo k under-ranges k under-class) f),
+        f .few,
+      )
+
+  over-step : Step (settledOver r i)
+  over-step ms p =
+      let (ms′, f) = settled-over (r .settings .len - 1) (r .settings .h) i (unlimited→fits r good p) in (
+        ms′,
+        fits→unlimited (settledOver r i) over-formed (suc (windows ms)) (record {
+          in-rule = rw (replaced-class (ranges r) i (sucℤ k) hi over-ranges k over-class) (f .in-rule);
+          few = f .few;
+          short = omega (arith, f .short, class-slots r good);
+        }),
+        f .few,
+      )
+
+  module _ (q : Request) (q-formed : Formed q) (step : Step q) where
+    settles : Settles r q
+    settles =
+        record {
+          plan = λ ms p. let (ms′, p′, few) = step ms p in (ms′, p′);
+          count = λ v w a b.
+              let (ms, p, e) = a .met in
+              let (ms′, p′, few) = step ms p in
+              omega (arith, e, few, b .least ms′ p′);
+        }
+
+    settles-answer : (before after : Outcome) → Keeps (unlimited r) before → Keeps (unlimited q) after → SettlesAnswer before after
+    settles-answer before after kb ka =
+        record {
+          answer = λ w c e.
+              let a = planned-so (unlimited r) before kb w c e .windows in
+              let (ms, p, count) = a .least .met in
+              let (ms′, p′, few) = step ms (to-unlimited r good ms p) in
+              let q-plan = from-unlimited q q-formed ms′ p′ in
+              let b = planned-where (unlimited q) after ka (formed .1 (unlimited-formed q q-formed)) ms′ q-plan in
+              let raised = b .promise .windows in (
+                b .windows,
+                b .covered,
+                b .answer,
+                omega (arith, a .minimum, count, few, raised .minimum, raised .least .least ms′ q-plan),
+              );
+        }
+
+  pub settling-under : Settles r (settledUnder r i)
+  settling-under = settles (settledUnder r i) under-formed under-step
+
+  pub settling-over : Settles r (settledOver r i)
+  settling-over = settles (settledOver r i) over-formed over-step
+
+  pub settling-answers-under : (before after : Outcome) → Keeps (unlimited r) before → Keeps (unlimited (settledUnder r i)) after →
+      SettlesAnswer before after
+  settling-answers-under = settles-answer (settledUnder r i) under-formed under-step
+
+  pub settling-answers-over : (before after : Outcome) → Keeps (unlimited r) before → Keeps (unlimited (settledOver r i)) after →
+      SettlesAnswer before after
+  settling-answers-over = settles-answer (settledOver r i) over-formed over-step
+
+pub counting : (r : Request) → Formed r → (o : Outcome) → Keeps (unlimited r) o → Counts r o
+counting r good o keeps =
+    record {
+      number = λ w c e.
+          let a = planned-so (unlimited r) o keeps w c e .windows in
+          subst (LeastUnlimited r) (omega (arith, a .minimum)) (least-unlimited r good (a .least));
+      none = λ e ms p. none-so (unlimited r) o keeps e ms (from-unlimited r good ms p);
+    }

@@ -1,0 +1,122 @@
+-- The starred cases of document 01 ("Station plans worked by hand"), each with what the filter has to hand back: one list, and the
+-- claim that every outcome in it keeps the promise (proved in proofs/Cases.antt). Which plan is handed back is left open; here
+-- stands one for each.
+use Prim.Native.Nat.{ℕ}
+use mathlib.Core.List.{List, [], _∷_, map}
+use lib.IntN.{ℤ, pos, negsuc}
+use lib.ListN.{length, replicate}
+use Rattle.judge.specs.declared.settings.CountRange.{CountRange}
+use Rattle.judge.specs.declared.settings.Settings.{Settings}
+use Rattle.requests.specs.Promise.{no-plan, planned, Outcome, Keeps}
+use Rattle.requests.specs.Request.{Request}
+
+pub record Case : Type 0 where
+  pub request : Request
+  pub outcome : Outcome
+
+infix 50 _‥_
+abbrev pub _‥_ : (least most : ℕ) → CountRange
+least ‥ most = record { least = least; most = most }
+
+abbrev pub settings : (k : ℤ) (len h : ℕ) (windows covered : CountRange) → Settings
+settings k len h windows covered = record { k = k; len = len; h = h; windows = windows; covered = covered }
+
+-- k = 0 and h = 0
+abbrev pub asked : (len : ℕ) (windows covered : CountRange) → Settings
+asked len windows covered = settings (pos 0) len 0 windows covered
+
+abbrev pub loads : List ℕ → List ℤ
+loads = map pos
+
+-- what the mark slice holds before
+abbrev pub before : List ℤ → List ℕ
+before lowest = replicate (length lowest) 9
+
+abbrev pub request : Settings → (lowest highest : List ℤ) → Request
+request s lowest highest = record { settings = s; lowest = lowest; highest = highest; marks = before lowest }
+
+abbrev pub noPlan : Settings → (lowest highest : List ℤ) → Case
+noPlan s lowest highest =
+    record {
+      request = request s lowest highest;
+      outcome = record { answer = no-plan; lowest = lowest; highest = highest; marks = before lowest };
+    }
+
+-- planned with both count ranges, the narrowed ranges and a plan
+abbrev pub cut : Settings → (lowest highest : List ℤ) → (windows covered : CountRange) → (lowest′ highest′ : List ℤ) →
+    (marks : List ℕ) → Case
+cut s lowest highest windows covered lowest′ highest′ marks =
+    record {
+      request = request s lowest highest;
+      outcome = record { answer = planned windows covered; lowest = lowest′; highest = highest′; marks = marks };
+    }
+
+-- planned, and nothing is cut
+abbrev pub uncut : Settings → (lowest highest : List ℤ) → (windows covered : CountRange) → (marks : List ℕ) → Case
+uncut s lowest highest windows covered marks = cut s lowest highest windows covered lowest highest marks
+
+-- the ranges of A to C, of D and E, and of F and G
+abbrev lowestA : List ℤ
+lowestA = pos 1 ∷ negsuc 1 ∷ pos 5 ∷ pos 0 ∷ []
+
+abbrev highestA : List ℤ
+highestA = loads (3 ∷ 4 ∷ 5 ∷ 0 ∷ [])
+
+abbrev lowestD : List ℤ
+lowestD = loads (0 ∷ 0 ∷ 1 ∷ 0 ∷ 1 ∷ 0 ∷ 1 ∷ [])
+
+abbrev highestD : List ℤ
+highestD = loads (1 ∷ 1 ∷ 1 ∷ 1 ∷ 1 ∷ 1 ∷ 1 ∷ [])
+
+abbrev lowestF : List ℤ
+lowestF = loads (1 ∷ 0 ∷ 1 ∷ 1 ∷ 0 ∷ 1 ∷ 0 ∷ 1 ∷ [])
+
+abbrev highestF : List ℤ
+highestF = loads (1 ∷ 1 ∷ 1 ∷ 1 ∷ 1 ∷ 1 ∷ 1 ∷ 1 ∷ [])
+
+abbrev loads515 : List ℤ
+loads515 = loads (5 ∷ 1 ∷ 5 ∷ [])
+
+abbrev largest : ℤ
+largest = pos 2147483647
+
+unfoldable pub cases : List Case
+cases =
+    -- A
+    cut (asked 3 (0 ‥ 1) (0 ‥ 4)) lowestA highestA (1 ‥ 1) (3 ‥ 4)
+    (loads (1 ∷ 1 ∷ 5 ∷ 0 ∷ [])) highestA (1 ∷ 2 ∷ 2 ∷ 0 ∷ [])
+    -- B
+    ∷ uncut (settings (pos 0) 3 1 (0 ‥ 1) (0 ‥ 4)) lowestA highestA (1 ‥ 1) (3 ‥ 4) (1 ∷ 2 ∷ 2 ∷ 0 ∷ [])
+    -- C
+    ∷ noPlan (asked 2 (0 ‥ 1) (0 ‥ 4)) lowestA highestA
+    -- D
+    ∷ uncut (asked 3 (0 ‥ 2) (0 ‥ 7)) lowestD highestD (2 ‥ 2) (4 ‥ 7) (0 ∷ 0 ∷ 1 ∷ 0 ∷ 1 ∷ 2 ∷ 2 ∷ [])
+    -- E
+    ∷ cut (asked 3 (0 ‥ 2) (0 ‥ 4)) lowestD highestD (2 ‥ 2) (4 ‥ 4)
+    lowestD (loads (0 ∷ 0 ∷ 1 ∷ 1 ∷ 1 ∷ 1 ∷ 1 ∷ [])) (0 ∷ 0 ∷ 1 ∷ 0 ∷ 1 ∷ 2 ∷ 2 ∷ [])
+    -- D with windows 0..3 and covered 0..4 ("Plausible programs that are wrong")
+    ∷ cut (asked 3 (0 ‥ 3) (0 ‥ 4)) lowestD highestD (2 ‥ 3) (3 ‥ 4)
+    lowestD (loads (0 ∷ 1 ∷ 1 ∷ 1 ∷ 1 ∷ 1 ∷ 1 ∷ [])) (0 ∷ 0 ∷ 1 ∷ 0 ∷ 1 ∷ 0 ∷ 1 ∷ [])
+    -- F
+    ∷ cut (asked 5 (0 ‥ 2) (0 ‥ 7)) lowestF highestF (2 ‥ 2) (7 ‥ 7)
+    (loads (1 ∷ 1 ∷ 1 ∷ 1 ∷ 0 ∷ 1 ∷ 1 ∷ 1 ∷ [])) (loads (1 ∷ 1 ∷ 1 ∷ 1 ∷ 0 ∷ 1 ∷ 1 ∷ 1 ∷ [])) (1 ∷ 2 ∷ 2 ∷ 2 ∷ 0 ∷ 1 ∷ 2 ∷ 2 ∷ [])
+    -- G: one plan has 2 windows, another covers 5 slots
+    ∷ uncut (asked 5 (0 ‥ 4) (0 ‥ 8)) lowestF highestF (2 ‥ 4) (5 ‥ 8) (1 ∷ 2 ∷ 2 ∷ 2 ∷ 0 ∷ 1 ∷ 2 ∷ 2 ∷ [])
+    -- none does both
+    ∷ noPlan (asked 5 (0 ‥ 2) (0 ‥ 5)) lowestF highestF
+    -- H
+    ∷ uncut (asked 1 (0 ‥ 1) (0 ‥ 1)) (loads (0 ∷ [])) (loads (0 ∷ [])) (0 ‥ 1) (0 ‥ 1) (0 ∷ [])
+    ∷ noPlan (asked 1 (0 ‥ 0) (0 ‥ 1)) (loads (1 ∷ [])) (loads (1 ∷ []))
+    -- I
+    ∷ uncut (settings largest 1 0 (0 ‥ 0) (0 ‥ 2)) (largest ∷ largest ∷ []) (largest ∷ largest ∷ []) (0 ‥ 0) (0 ‥ 2) (0 ∷ 0 ∷ [])
+    -- J
+    ∷ uncut (asked 3 (0 ‥ 7) (0 ‥ 7)) highestD highestD (3 ‥ 7) (7 ‥ 7) (1 ∷ 2 ∷ 2 ∷ 1 ∷ 2 ∷ 2 ∷ 1 ∷ [])
+    -- loads 5, 1, 5 need one window at k = 0 and two at k = 1 ("Plausible programs that are wrong")
+    ∷ uncut (asked 3 (0 ‥ 3) (0 ‥ 3)) loads515 loads515 (1 ‥ 3) (3 ‥ 3) (1 ∷ 2 ∷ 2 ∷ [])
+    ∷ uncut (settings (pos 1) 3 0 (0 ‥ 3) (0 ‥ 3)) loads515 loads515 (2 ‥ 3) (2 ‥ 3) (1 ∷ 0 ∷ 1 ∷ [])
+    ∷ []
+
+-- the claim: each of these outcomes keeps the promise
+abbrev pub Kept : List Case → Type 0
+Kept [] = Unit
+Kept (c ∷ cs) = Keeps (c .request) (c .outcome) × Kept cs

@@ -1,0 +1,100 @@
+-- What the filter promises (document 01, "Filter"), as a relation between what it is given and what comes back.
+use Prim.Native.Nat.{ℕ, _<_, max}
+use mathlib.Core.Bool.{true, cond}
+use mathlib.Core.List.{List}
+use mathlib.Core.Logic.{_↔_}
+use mathlib.Core.Option.{some}
+use mathlib.Core.Path.{_≡_}
+use lib.IntN.{ℤ, sucℤ}
+use lib.ListN.{length}
+use lib.Signed.{ltZ, _≤ℤ_}
+use Rattle.judge.specs.Judgment.{says, judgment}
+use Rattle.judge.specs.Ranges.{ChosenIn}
+use Rattle.judge.specs.Rule.{windows, covered}
+use Rattle.judge.specs.declared.settings.CountRange.{CountRange}
+use Rattle.requests.specs.Request.{Request, slots, paired, at, Refused, refused, WellFormed, PlanOf, LeftAt, LeastOver}
+
+pub data Answer : Type 0 where
+  refuses : Refused → Answer
+  no-plan : Answer
+  planned : (windows covered : CountRange) → Answer
+
+-- all that comes back: the answer, and what the three slices hold then
+pub record Outcome : Type 0 where
+  pub answer : Answer
+  pub lowest : List ℤ
+  pub highest : List ℤ
+  pub marks : List ℕ
+
+-- load x is in the range that slot i holds then
+abbrev pub Held : Outcome → (i : ℕ) (x : ℤ) → Type 0
+Held o i x = (at (o .lowest) i ≤ℤ x) × (x ≤ℤ at (o .highest) i)
+
+pub record Unaltered (r : Request) (o : Outcome) : Type 0 where
+  pub lowest : o .lowest ≡ r .lowest
+  pub highest : o .highest ≡ r .highest
+  pub marks : o .marks ≡ r .marks
+
+-- the minimum becomes the larger of the given one and the least of the count over all plans; the maximum does not move
+pub record Raised (r : Request) (count : List ℕ → ℕ) (given raised : CountRange) : Type 0 where
+  pub value : ℕ
+  pub least : LeastOver (PlanOf r) count value
+  pub minimum : raised .least ≡ max (given .least) value
+  pub maximum : raised .most ≡ given .most
+
+-- what a slot loses: its under part, where its lowest load becomes k + 1 if that is larger; its over part, where its highest load
+-- becomes k if that is smaller; or nothing
+pub data Loss : Type 0 where
+  nothing : Loss
+  under-part : Loss
+  over-part : Loss
+
+abbrev pub lowestAfter : ℤ → Loss → ℤ → ℤ
+lowestAfter k nothing lo = lo
+lowestAfter k under-part lo = cond (ltZ lo (sucℤ k)) (sucℤ k) lo
+lowestAfter k over-part lo = lo
+
+abbrev pub highestAfter : ℤ → Loss → ℤ → ℤ
+highestAfter k nothing hi = hi
+highestAfter k under-part hi = hi
+highestAfter k over-part hi = cond (ltZ k hi) k hi
+
+-- slot i holds the narrowed range: it has lost a part or nothing, and what is in it is what is left
+pub record Narrowed (r : Request) (o : Outcome) (i : ℕ) : Type 0 where
+  pub loss : Loss
+  pub low : at (o .lowest) i ≡ lowestAfter (r .settings .k) loss (at (r .lowest) i)
+  pub high : at (o .highest) i ≡ highestAfter (r .settings .k) loss (at (r .highest) i)
+  pub exact : (x : ℤ) → Held o i x ↔ LeftAt r i x
+
+-- the marks hold a legal plan within both maximums: for some loads in the narrowed ranges the judge says yes to it
+pub record Drawn (r : Request) (o : Outcome) : Type 0 where
+  pub loads : List ℤ
+  pub chosen : ChosenIn (paired (o .lowest) (o .highest)) loads
+  pub yes : judgment (r .settings) loads (o .marks) ≡ says true (windows (o .marks)) (covered (o .marks))
+
+pub record Planned (r : Request) (w c : CountRange) (o : Outcome) : Type 0 where
+  pub windows : Raised r windows (r .settings .windows) w
+  pub covered : Raised r covered (r .settings .covered) c
+  pub lowest-length : length (o .lowest) ≡ slots r
+  pub highest-length : length (o .highest) ≡ slots r
+  pub narrowed : (i : ℕ) → i < slots r → Narrowed r o i
+  pub drawn : Drawn r o
+
+abbrev pub NoPlan : Request → Type 0
+NoPlan r = (ms : List ℕ) → PlanOf r ms → ⊥
+
+-- neither a refusal nor "no plan" alters a lent slice
+abbrev pub Answers : Request → Answer → Outcome → Type 0
+Answers r (refuses f) o = (refused r ≡ some f) × Unaltered r o
+Answers r no-plan o = WellFormed r × NoPlan r × Unaltered r o
+Answers r (planned w c) o = WellFormed r × Planned r w c o
+
+abbrev pub Keeps : Request → Outcome → Type 0
+Keeps r o = Answers r (o .answer) o
+
+-- Two outcomes that keep the promise for one request are alike (proofs/Alike.antt): which plan is handed back is all that it leaves
+-- open.
+pub record Alike (o p : Outcome) : Type 0 where
+  pub answer : o .answer ≡ p .answer
+  pub lowest : o .lowest ≡ p .lowest
+  pub highest : o .highest ≡ p .highest

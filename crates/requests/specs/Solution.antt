@@ -1,0 +1,82 @@
+-- What the filter hands back for a plan of its choice, computed by `best`. What private functions are to promise: the filter's
+-- promise does not rest on it (proofs/Keeping.antt says that it is kept).
+use Prim.Native.Nat.{ℕ, suc, _-_, max}
+use mathlib.Core.Bool.{Bool, true, false, cond}
+use mathlib.Core.List.{List, [], _∷_, map}
+use mathlib.Core.Option.{Option, none, some}
+use lib.Dec.{leb}
+use lib.IntN.{ℤ}
+use lib.ListN.{getD, set}
+use Rattle.judge.specs.Ranges.{Class, under-only, over-only, either, classOf}
+use Rattle.judge.specs.declared.settings.CountRange.{CountRange}
+use Rattle.judge.specs.declared.settings.Settings.{Settings}
+use Rattle.requests.specs.Best.{best, fewest}
+use Rattle.requests.specs.Promise.{Answer, refuses, no-plan, planned, Outcome, Loss, nothing, under-part, over-part, lowestAfter, highestAfter}
+use Rattle.requests.specs.Request.{Request, ranges, Refused, refused}
+
+-- the covered count that stands for "no plan"
+abbrev pub sentinel : ℕ
+sentinel = 65535
+
+abbrev pub classes : Request → List Class
+classes r = map (classOf (r .settings .k)) (ranges r)
+
+-- the least covered count of slots of these classes, within the window maximum
+abbrev pub cheapest : Settings → List Class → ℕ
+cheapest s cs = best sentinel (s .len - 1) (s .h) cs (s .windows .most)
+
+-- the least window count of such slots, within the covered maximum
+abbrev pub sparsest : Settings → List Class → ℕ
+sparsest s cs = fewest sentinel (s .len - 1) (s .h) cs (s .covered .most) 0 (s .windows .most)
+
+-- some plan of slots of these classes is within both maximums
+unfoldable pub possible : Settings → List Class → Bool
+possible s cs = leb (cheapest s cs) (s .covered .most)
+
+-- what slot i loses, of class c: an open slot loses a part where no plan is left with the slot settled on that side
+abbrev pub lossOf : Settings → List Class → ℕ → Class → Loss
+lossOf s cs i under-only = nothing
+lossOf s cs i over-only = nothing
+lossOf s cs i either =
+    cond (possible s (set cs i under-only)) (cond (possible s (set cs i over-only)) nothing over-part) under-part
+
+unfoldable pub loss : Settings → List Class → ℕ → Loss
+loss s cs i = lossOf s cs i (getD cs i under-only)
+
+-- f of each slot and its load
+abbrev pub along : (ℕ → ℤ → ℤ) → List ℤ → List ℤ
+along f [] = []
+along f (x ∷ xs) = f 0 x ∷ along (λ i. f (suc i)) xs
+
+-- the ends of the ranges, without what their slots lose
+abbrev pub lowestLeft : Settings → List Class → List ℤ → List ℤ
+lowestLeft s cs = along (λ i lo. lowestAfter (s .k) (loss s cs i) lo)
+
+abbrev pub highestLeft : Settings → List Class → List ℤ → List ℤ
+highestLeft s cs = along (λ i hi. highestAfter (s .k) (loss s cs i) hi)
+
+abbrev pub raised : CountRange → ℕ → CountRange
+raised given least = record { least = max (given .least) least; most = given .most }
+
+-- the outcome where a plan is found and has these marks
+abbrev pub found : Request → List ℕ → Outcome
+found r ms =
+    let s = r .settings in
+    let cs = classes r in
+    record {
+      answer = planned (raised (s .windows) (sparsest s cs)) (raised (s .covered) (cheapest s cs));
+      lowest = lowestLeft s cs (r .lowest);
+      highest = highestLeft s cs (r .highest);
+      marks = ms;
+    }
+
+abbrev pub unaltered : Request → Answer → Outcome
+unaltered r a = record { answer = a; lowest = r .lowest; highest = r .highest; marks = r .marks }
+
+abbrev pub outcomeBy : Option Refused → Bool → Request → List ℕ → Outcome
+outcomeBy (some f) possible r ms = unaltered r (refuses f)
+outcomeBy none false r ms = unaltered r no-plan
+outcomeBy none true r ms = found r ms
+
+unfoldable pub outcome : Request → List ℕ → Outcome
+outcome r ms = outcomeBy (refused r) (possible (r .settings) (classes r)) r ms

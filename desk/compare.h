@@ -1,0 +1,35 @@
+/* Puts one request to the library and to the search, and stops the test at the first difference. */
+#ifndef COMPARE_H
+#define COMPARE_H
+
+#include "search.h"
+
+/* A slice stands in a larger buffer, between entries that no call may alter. */
+enum { MARGIN = 4, PLACES = 72, BUFFER = MARGIN + PLACES + MARGIN };
+
+/* What either function is asked; the judge takes lowest as its loads. The slices begin at entry MARGIN. */
+struct request {
+    struct settings settings;
+    size_t lowest_length, highest_length, marks_length;
+    int32_t lowest[BUFFER], highest[BUFFER];
+    uint8_t marks[BUFFER];
+};
+
+/* A request without slots or settings, its buffers filled with a pattern. */
+struct request blank_request(void);
+
+/* Ask the library alone. Whatever lies beside the slices has to stay as it is. */
+struct icecoppice_answer ask_filter(struct request *r);
+struct icecoppice_verdict ask_judge(const struct request *r);
+
+/* Ask both, and hold every field of the answer and every entry of the slices to the search. */
+struct icecoppice_answer compare_filter(struct request *r);
+struct icecoppice_verdict compare_judge(const struct request *r);
+
+/* Prints what is wrong and the request, and ends the test. */
+_Noreturn void fail(const char *what, const struct request *r);
+
+/* Prints how many answers of each kind were compared; fails if one is rare. */
+void print_tally(void);
+
+#endif

@@ -1,0 +1,220 @@
+#include "search.h"
+
+#include <stdlib.h>
+
+struct counts {
+    unsigned windows, covered;
+};
+
+/* Marks that some loads could go with, whatever the ranges. */
+struct drawing {
+    uint8_t marks[SEARCH_SLOTS];
+    struct counts counts;
+};
+
+struct drawings {
+    struct drawing *list;
+    size_t length;
+};
+
+static bool goes_with_over(uint8_t mark)
+{
+    return mark == ICECOPPICE_FIRST || mark == ICECOPPICE_LATER;
+}
+
+static bool continues_window(uint8_t mark)
+{
+    return mark == ICECOPPICE_LATER || mark == ICECOPPICE_BRIDGE;
+}
+
+/* Whether the window that begins at marks[0], with n slots left in the plan, keeps len and h. */
+static bool window_fits(const uint8_t *marks, size_t n, unsigned len, unsigned h)
+{
+    size_t slots = 1;
+    unsigned bridges = 0;
+    while (slots < n && continues_window(marks[slots])) {
+        bridges += marks[slots] == ICECOPPICE_BRIDGE;
+        slots++;
+    }
+    return slots <= len && bridges <= h;
+}
+
+/* All of the rule that does not speak of loads. */
+static bool well_drawn(const uint8_t *marks, size_t n, unsigned len, unsigned h)
+{
+    for (size_t j = 0; j < n; j++) {
+        if (marks[j] > ICECOPPICE_BRIDGE)
+            return false;
+        if (continues_window(marks[j]) && (j == 0 || marks[j - 1] == ICECOPPICE_UNCOVERED))
+            return false;
+        if (marks[j] == ICECOPPICE_BRIDGE && (j + 1 == n || !continues_window(marks[j + 1])))
+            return false;
+        if (marks[j] == ICECOPPICE_FIRST && !window_fits(marks + j, n - j, len, h))
+            return false;
+    }
+    return true;
+}
+
+static struct counts counts_of(const uint8_t *marks, size_t n)
+{
+    struct counts c = {0, 0};
+    for (size_t j = 0; j < n; j++) {
+        c.windows += marks[j] == ICECOPPICE_FIRST;
+        c.covered += marks[j] != ICECOPPICE_UNCOVERED;
+    }
+    return c;
+}
+
+static bool within_maximums(const struct settings *s, struct counts c)
+{
+    return c.windows <= s->windows_most && c.covered <= s->covered_most;
+}
+
+/* Whether each range has a load on the side of k that the slot's mark goes with. */
+static bool loads_exist(int32_t k, const int32_t *lowest, const int32_t *highest, const uint8_t *marks, size_t n)
+{
+    for (size_t j = 0; j < n; j++) {
+        if (goes_with_over(marks[j]) ? highest[j] <= k : lowest[j] > k)
+            return false;
+    }
+    return true;
+}
+
+bool search_is_plan(const struct settings *s, const int32_t *lowest, const int32_t *highest, const uint8_t *marks,
+                    size_t n)
+{
+    return well_drawn(marks, n, s->len, s->h) && loads_exist(s->k, lowest, highest, marks, n) &&
+           within_maximums(s, counts_of(marks, n));
+}
+
+/* The first of the refusals 21 to 26 that applies, or 0. The judge has one other slice and gives its length twice. */
+static uint16_t refusal(const struct settings *s, size_t n, size_t second_length, size_t third_length)
+{
+    if (n == 0 || n > ICECOPPICE_SLOTS)
+        return ICECOPPICE_FIRST_LENGTH;
+    if (second_length != n || third_length != n)
+        return ICECOPPICE_OTHER_LENGTH;
+    if (s->len == 0 || s->len > n)
+        return ICECOPPICE_WINDOW_LENGTH;
+    if (s->h > 0 && (uint32_t)s->h + 1 >= s->len)
+        return ICECOPPICE_BRIDGES;
+    if (s->windows_least > s->windows_most || s->windows_most > n)
+        return ICECOPPICE_WINDOW_COUNTS;
+    if (s->covered_least > s->covered_most || s->covered_most > n)
+        return ICECOPPICE_COVERED_COUNTS;
+    return 0;
+}
+
+struct icecoppice_verdict search_judge(const struct settings *s, const int32_t *loads, size_t loads_length,
+                                       const uint8_t *marks, size_t marks_length)
+{
+    uint16_t refused = refusal(s, loads_length, marks_length, marks_length);
+    if (refused != 0)
+        return (struct icecoppice_verdict){.code = refused};
+    if (!search_is_plan(s, loads, loads, marks, loads_length))
+        return (struct icecoppice_verdict){.code = ICECOPPICE_NO};
+    struct counts c = counts_of(marks, loads_length);
+    return (struct icecoppice_verdict){.code = ICECOPPICE_YES, .windows = c.windows, .covered = c.covered};
+}
+
+static struct drawings draw_all(size_t n, unsigned len, unsigned h)
+{
+    size_t strings = (size_t)1 << (2 * n);
+    struct drawings all = {calloc(strings, sizeof *all.list), 0};
+    if (all.list == NULL)
+        abort();
+    for (size_t string = 0; string < strings; string++) {
+        struct drawing *d = &all.list[all.length];
+        for (size_t j = 0; j < n; j++)
+            d->marks[j] = string >> (2 * j) & 3;
+        d->counts = counts_of(d->marks, n);
+        if (well_drawn(d->marks, n, len, h))
+            all.length++;
+    }
+    return all;
+}
+
+/* Kept from call to call: they depend on nothing but n, len and h. */
+static const struct drawings *drawings_of(size_t n, unsigned len, unsigned h)
+{
+    static struct drawings kept[SEARCH_SLOTS + 1][SEARCH_SLOTS + 1][SEARCH_SLOTS];
+    if (n > SEARCH_SLOTS)
+        abort();
+    struct drawings *all = &kept[n][len][h];
+    if (all->list == NULL)
+        *all = draw_all(n, len, h);
+    return all;
+}
+
+/* What occurs in the plans of a request. */
+struct findings {
+    bool planned;
+    struct counts least;
+    bool under[SEARCH_SLOTS], over[SEARCH_SLOTS];
+};
+
+static void take_in(struct findings *f, const struct drawing *d, size_t n)
+{
+    if (!f->planned || d->counts.windows < f->least.windows)
+        f->least.windows = d->counts.windows;
+    if (!f->planned || d->counts.covered < f->least.covered)
+        f->least.covered = d->counts.covered;
+    f->planned = true;
+    for (size_t j = 0; j < n; j++) {
+        if (goes_with_over(d->marks[j]))
+            f->over[j] = true;
+        else
+            f->under[j] = true;
+    }
+}
+
+static struct findings find(const struct settings *s, const int32_t *lowest, const int32_t *highest, size_t n)
+{
+    struct findings f = {.planned = false};
+    const struct drawings *all = drawings_of(n, s->len, s->h);
+    for (size_t i = 0; i < all->length; i++) {
+        const struct drawing *d = &all->list[i];
+        if (within_maximums(s, d->counts) && loads_exist(s->k, lowest, highest, d->marks, n))
+            take_in(&f, d, n);
+    }
+    return f;
+}
+
+static void narrow(const struct findings *f, int32_t k, int32_t *lowest, int32_t *highest, size_t n)
+{
+    for (size_t j = 0; j < n; j++) {
+        if (!f->over[j] && highest[j] > k)
+            highest[j] = k;
+        if (!f->under[j] && lowest[j] <= k)
+            lowest[j] = k + 1; /* the slot is over in some plan, so k is not the last number */
+    }
+}
+
+static uint16_t larger(uint16_t given, unsigned least)
+{
+    return least > given ? (uint16_t)least : given;
+}
+
+struct icecoppice_answer search_filter(const struct settings *s, int32_t *lowest, size_t lowest_length,
+                                       int32_t *highest, size_t highest_length, size_t marks_length)
+{
+    size_t n = lowest_length;
+    uint16_t refused = refusal(s, n, highest_length, marks_length);
+    if (refused != 0)
+        return (struct icecoppice_answer){.code = refused};
+    for (size_t j = 0; j < n; j++) {
+        if (lowest[j] > highest[j])
+            return (struct icecoppice_answer){.code = ICECOPPICE_CROSSED, .slot = j};
+    }
+    struct findings f = find(s, lowest, highest, n);
+    if (!f.planned)
+        return (struct icecoppice_answer){.code = ICECOPPICE_NO};
+    narrow(&f, s->k, lowest, highest, n);
+    return (struct icecoppice_answer){
+        .code = ICECOPPICE_YES,
+        .windows_least = larger(s->windows_least, f.least.windows),
+        .windows_most = s->windows_most,
+        .covered_least = larger(s->covered_least, f.least.covered),
+        .covered_most = s->covered_most,
+    };
+}

@@ -1,0 +1,34 @@
+/*
+ * A second opinion on the library, by exhaustion: every string of marks is tried, and each sentence of document 01's
+ * rule is tested by itself. It shares no code with the library, and is for small requests only.
+ */
+#ifndef SEARCH_H
+#define SEARCH_H
+
+#include "../include/icecoppice.h"
+
+#include <stdbool.h>
+
+/* search_filter aborts at a request with more slots than this that it does not refuse. */
+#define SEARCH_SLOTS 8
+
+struct settings {
+    int32_t k;
+    uint16_t len, h;
+    uint16_t windows_least, windows_most;
+    uint16_t covered_least, covered_most;
+};
+
+/* What the filter has to answer; on "planned" the ranges are narrowed in place. Of the marks only the length counts. */
+struct icecoppice_answer search_filter(const struct settings *s, int32_t *lowest, size_t lowest_length,
+                                       int32_t *highest, size_t highest_length, size_t marks_length);
+
+/* What the judge has to answer, for any number of slots. */
+struct icecoppice_verdict search_judge(const struct settings *s, const int32_t *loads, size_t loads_length,
+                                       const uint8_t *marks, size_t marks_length);
+
+/* Whether the marks are legal for the ranges, with both counts within their maximums, for any number of slots. */
+bool search_is_plan(const struct settings *s, const int32_t *lowest, const int32_t *highest, const uint8_t *marks,
+                    size_t n);
+
+#endif

@@ -1,0 +1,329 @@
+/*
+ * Holds the library to the search on the worked cases and on random small requests and plans, whole and damaged; and to
+ * what follows from the definitions on large requests. The seed is fixed, so every run asks the same.
+ */
+#include "cases.h"
+#include "compare.h"
+
+#include <stdio.h>
+#include <string.h>
+
+enum { SMALL_SLOTS = 6, SMALL_REQUESTS = 400000, JUDGED_PLANS = 400000, LARGE_REQUESTS = 100 };
+
+/* SplitMix64; the remainder's bias does no harm here. */
+static uint32_t below(uint32_t bound)
+{
+    static uint64_t state = 20241115;
+    state += 0x9e3779b97f4a7c15u;
+    uint64_t z = state;
+    z = (z ^ (z >> 30)) * 0xbf58476d1ce4e5b9u;
+    z = (z ^ (z >> 27)) * 0x94d049bb133111ebu;
+    return (uint32_t)((z ^ (z >> 31)) >> 32) % bound;
+}
+
+static bool one_in(uint32_t bound)
+{
+    return below(bound) == 0;
+}
+
+/* A number at or around k, zero, or an end of the range, where a wrong comparison would show. */
+static int32_t some_load(int32_t k)
+{
+    const int32_t points[] = {k, k, k, 0, INT32_MIN, INT32_MAX};
+    int64_t load = points[below(6)];
+    load += (int64_t)below(5) - 2;
+    if (load < INT32_MIN)
+        return INT32_MIN;
+    return load > INT32_MAX ? INT32_MAX : (int32_t)load;
+}
+
+static int32_t load_for_mark(int32_t k, uint8_t mark)
+{
+    int32_t load = some_load(k);
+    bool over = mark == ICECOPPICE_FIRST || mark == ICECOPPICE_LATER;
+    if (over && load <= k)
+        return k < INT32_MAX ? k + 1 : k; /* no load is over at the last k */
+    return !over && load > k ? k : load;
+}
+
+static struct settings some_settings(size_t n)
+{
+    struct settings s;
+    s.k = some_load(0);
+    s.len = 1 + below(n);
+    s.h = s.len < 3 || one_in(2) ? 0 : below(s.len - 1);
+    s.windows_most = below(n + 1);
+    s.windows_least = below(s.windows_most + 1);
+    s.covered_most = below(n + 1);
+    s.covered_least = below(s.covered_most + 1);
+    return s;
+}
+
+static struct request some_request(size_t n)
+{
+    struct request r = blank_request();
+    r.settings = some_settings(n);
+    r.lowest_length = r.highest_length = r.marks_length = n;
+    for (size_t j = MARGIN; j < MARGIN + n; j++) {
+        int32_t a = some_load(r.settings.k), b = some_load(r.settings.k);
+        r.lowest[j] = a < b ? a : b;
+        r.highest[j] = a < b ? b : a;
+        r.marks[j] = below(256);
+    }
+    return r;
+}
+
+/* Never from 7 to 64, which the search could not work out. */
+static size_t some_length(void)
+{
+    size_t length = below(SMALL_SLOTS + 1 + PLACES - ICECOPPICE_SLOTS);
+    return length <= SMALL_SLOTS ? length : length - SMALL_SLOTS + ICECOPPICE_SLOTS;
+}
+
+static uint16_t some_setting(size_t n)
+{
+    const uint16_t points[] = {0, 1, 2, n - 1, n, n + 1, 64, 65, 256, 32768, 65534, 65535};
+    return points[below(sizeof points / sizeof *points)];
+}
+
+/* One change that often calls for a refusal. Several on one request try the order of the refusals. */
+static void damage(struct request *r)
+{
+    size_t n = r->lowest_length, slot = MARGIN + below(SMALL_SLOTS);
+    struct settings *s = &r->settings;
+    switch (below(10)) {
+    case 0: r->lowest_length = some_length(); break;
+    case 1: r->highest_length = one_in(4) ? ICECOPPICE_SLOTS : some_length(); break;
+    case 2: r->marks_length = one_in(4) ? ICECOPPICE_SLOTS : some_length(); break;
+    case 3: r->lowest_length = r->highest_length = r->marks_length = some_length(); break;
+    case 4: s->len = some_setting(n); break;
+    case 5: s->h = one_in(2) ? some_setting(n) : s->len - 1; break;
+    case 6: s->windows_most = some_setting(n); break;
+    case 7: s->windows_least = one_in(2) ? some_setting(n) : s->windows_most + 1; break;
+    case 8: s->covered_most = some_setting(n); break;
+    case 9: s->covered_least = one_in(2) ? some_setting(n) : s->covered_most + 1; break;
+    }
+    if (one_in(2)) {
+        r->lowest[slot] = some_load(s->k);
+        r->highest[slot] = some_load(s->k);
+    }
+}
+
+static void damage_often(struct request *r)
+{
+    if (one_in(2))
+        return;
+    do
+        damage(r);
+    while (one_in(2));
+}
+
+/* Legal marks for some loads, if the settings are accepted. */
+static void draw_marks(const struct settings *s, uint8_t *marks, size_t n)
+{
+    size_t j = 0;
+    while (j < n) {
+        if (one_in(2)) {
+            marks[j++] = ICECOPPICE_UNCOVERED;
+            continue;
+        }
+        size_t end = j + 1 + below(n - j < s->len ? n - j : s->len);
+        unsigned bridges = s->h;
+        for (marks[j++] = ICECOPPICE_FIRST; j < end; j++) {
+            bool bridge = bridges > 0 && j + 1 < end && one_in(2);
+            bridges -= bridge;
+            marks[j] = bridge ? ICECOPPICE_BRIDGE : ICECOPPICE_LATER;
+        }
+    }
+}
+
+/* Sets both maximums to what the marks need, and up to `slack` more. */
+static void allow_marks(struct settings *s, const uint8_t *marks, size_t n, uint32_t slack)
+{
+    unsigned windows = below(slack + 1), covered = below(slack + 1);
+    for (size_t j = 0; j < n; j++) {
+        windows += marks[j] == ICECOPPICE_FIRST;
+        covered += marks[j] != ICECOPPICE_UNCOVERED;
+    }
+    s->windows_most = windows < n ? windows : n;
+    s->covered_most = covered < n ? covered : n;
+    s->windows_least = below(s->windows_most + 1);
+    s->covered_least = below(s->covered_most + 1);
+}
+
+/* A request made around a plan, which its marks hold. */
+static struct request request_with_plan(size_t n)
+{
+    struct request r = some_request(n);
+    if (r.settings.k == INT32_MAX)
+        r.settings.k--; /* so that loads can be over */
+    draw_marks(&r.settings, r.marks + MARGIN, n);
+    allow_marks(&r.settings, r.marks + MARGIN, n, one_in(4));
+    for (size_t j = MARGIN; j < MARGIN + n; j++) {
+        int32_t load = load_for_mark(r.settings.k, r.marks[j]);
+        r.lowest[j] = one_in(3) ? INT32_MIN : load;
+        r.highest[j] = one_in(3) ? INT32_MAX : load;
+    }
+    return r;
+}
+
+static void compare_some_plan(void)
+{
+    size_t n = 1 + below(one_in(4) ? ICECOPPICE_SLOTS : SMALL_SLOTS);
+    struct request r = some_request(n);
+    uint8_t *marks = r.marks + MARGIN;
+    draw_marks(&r.settings, marks, n);
+    allow_marks(&r.settings, marks, n, 2);
+    if (one_in(3))
+        marks[below(n)] = one_in(4) ? below(256) : below(5);
+    for (size_t j = 0; j < n; j++)
+        r.lowest[MARGIN + j] = load_for_mark(r.settings.k, marks[j]);
+    if (one_in(4))
+        r.lowest[MARGIN + below(n)] = some_load(r.settings.k);
+    if (one_in(8) && r.settings.windows_most > 0)
+        r.settings.windows_least = --r.settings.windows_most;
+    if (one_in(8) && r.settings.covered_most > 0)
+        r.settings.covered_least = --r.settings.covered_most;
+    damage_often(&r);
+    compare_judge(&r);
+}
+
+static void compare_some_request(void)
+{
+    size_t n = one_in(2) ? SMALL_SLOTS : 1 + below(SMALL_SLOTS);
+    struct request r = one_in(3) ? some_request(n) : request_with_plan(n);
+    damage_often(&r);
+    compare_filter(&r);
+}
+
+static uint16_t code_with_range(struct request r, size_t slot, int32_t lowest, int32_t highest)
+{
+    r.lowest[MARGIN + slot] = lowest;
+    r.highest[MARGIN + slot] = highest;
+    return ask_filter(&r).code;
+}
+
+/* Each part of an open slot is left exactly when the request with the slot settled so has a plan. */
+static void check_parts(const struct request *given, const struct request *left, size_t slot)
+{
+    int32_t k = given->settings.k, lowest = given->lowest[MARGIN + slot], highest = given->highest[MARGIN + slot];
+    if (lowest > k || highest <= k)
+        return;
+    bool under = code_with_range(*given, slot, lowest, k) == ICECOPPICE_YES;
+    bool over = code_with_range(*given, slot, k + 1, highest) == ICECOPPICE_YES;
+    if (left->lowest[MARGIN + slot] != (under ? lowest : k + 1) || left->highest[MARGIN + slot] != (over ? highest : k))
+        fail("a part is left and has no plan when settled, or is cut and has one", given);
+}
+
+static uint16_t code_with_maximums(struct request r, uint16_t windows_most, uint16_t covered_most)
+{
+    r.settings.windows_most = windows_most;
+    r.settings.covered_most = covered_most;
+    return ask_filter(&r).code;
+}
+
+/* With a maximum at the least count there is a plan, and one below there is none. */
+static void check_least_counts(const struct request *given, const struct icecoppice_answer *a)
+{
+    uint16_t windows = a->windows_least, covered = a->covered_least;
+    if (code_with_maximums(*given, windows, a->covered_most) != ICECOPPICE_YES ||
+        code_with_maximums(*given, a->windows_most, covered) != ICECOPPICE_YES ||
+        (windows > 0 && code_with_maximums(*given, windows - 1, a->covered_most) != ICECOPPICE_NO) ||
+        (covered > 0 && code_with_maximums(*given, a->windows_most, covered - 1) != ICECOPPICE_NO))
+        fail("a least count is not the least", given);
+}
+
+/* The judge has to say yes to the plan that the filter drew, with loads from the ranges that it left. */
+static void check_drawn_plan(const struct request *left, const struct icecoppice_answer *a)
+{
+    struct request r = *left;
+    for (size_t j = MARGIN; j < MARGIN + r.lowest_length; j++) {
+        bool over = r.marks[j] == ICECOPPICE_FIRST || r.marks[j] == ICECOPPICE_LATER;
+        r.lowest[j] = over ? left->highest[j] : left->lowest[j];
+    }
+    struct icecoppice_verdict v = compare_judge(&r);
+    if (v.code != ICECOPPICE_YES || v.windows < a->windows_least || v.covered < a->covered_least)
+        fail("the judge says no to the filter's plan, or the plan has less than the least", left);
+}
+
+static void check_large_request(void)
+{
+    size_t n = one_in(4) ? ICECOPPICE_SLOTS : SMALL_SLOTS + 1 + below(ICECOPPICE_SLOTS - SMALL_SLOTS);
+    struct request r = request_with_plan(n);
+    r.settings.windows_least = r.settings.covered_least = 0; /* so that the answer shows the least counts */
+    const struct request given = r;
+    memset(r.marks + MARGIN, 0xff, n);
+    struct icecoppice_answer a = ask_filter(&r);
+    if (a.code != ICECOPPICE_YES ||
+        a.windows_most != r.settings.windows_most || a.covered_most != r.settings.covered_most)
+        fail("no plan where one was drawn, or a maximum that moved", &given);
+    if (!search_is_plan(&r.settings, r.lowest + MARGIN, r.highest + MARGIN, given.marks + MARGIN, n))
+        fail("a load of a plan was cut", &given);
+    for (size_t j = 0; j < n; j++)
+        check_parts(&given, &r, j);
+    check_least_counts(&given, &a);
+    check_drawn_plan(&r, &a);
+}
+
+/* 64 slots that are all over, at every window length: the least windows are as many as it takes to tile them. */
+static void check_all_over(void)
+{
+    const uint16_t n = ICECOPPICE_SLOTS;
+    for (uint16_t len = 1; len <= n; len++) {
+        struct request r = blank_request();
+        r.settings = (struct settings){0, len, 0, 0, n, 0, n};
+        r.lowest_length = r.highest_length = r.marks_length = n;
+        for (size_t j = MARGIN; j < MARGIN + n; j++)
+            r.lowest[j] = r.highest[j] = 1;
+        struct icecoppice_answer a = ask_filter(&r);
+        if (a.code != ICECOPPICE_YES || a.windows_least != (n + len - 1) / len || a.covered_least != n)
+            fail("64 slots over", &r);
+        check_drawn_plan(&r, &a);
+    }
+}
+
+/* A length of 0 asks nothing of its pointer. */
+static void check_null(void)
+{
+    struct request r = blank_request();
+    int32_t load = 0;
+    uint8_t mark = 0;
+    if (icecoppice_filter(0, 1, 0, 0, 0, 0, 0, NULL, 0, NULL, 0, NULL, 0).code != ICECOPPICE_FIRST_LENGTH ||
+        icecoppice_filter(0, 1, 0, 0, 0, 0, 0, &load, 1, NULL, 0, &mark, 1).code != ICECOPPICE_OTHER_LENGTH ||
+        icecoppice_judge(0, 1, 0, 0, 0, 0, 0, NULL, 0, NULL, 0).code != ICECOPPICE_FIRST_LENGTH ||
+        icecoppice_judge(0, 1, 0, 0, 0, 0, 0, &load, 1, NULL, 0).code != ICECOPPICE_OTHER_LENGTH)
+        fail("NULL with length 0", &r);
+}
+
+/* Lengths that would pass if they were taken as 16 bits. */
+static void check_long_slices(void)
+{
+    enum { LONG = 65536 + 1 };
+    static int32_t low[LONG], high[LONG];
+    static uint8_t marks[LONG];
+    struct request r = blank_request();
+    if (icecoppice_filter(0, 1, 0, 0, 1, 0, 1, low, LONG, high, LONG, marks, LONG).code != ICECOPPICE_FIRST_LENGTH ||
+        icecoppice_filter(0, 1, 0, 0, 1, 0, 1, low, 1, high, LONG, marks, 1).code != ICECOPPICE_OTHER_LENGTH ||
+        icecoppice_filter(0, 1, 0, 0, 1, 0, 1, low, 1, high, 1, marks, LONG).code != ICECOPPICE_OTHER_LENGTH ||
+        icecoppice_judge(0, 1, 0, 0, 1, 0, 1, low, LONG, marks, LONG).code != ICECOPPICE_FIRST_LENGTH ||
+        icecoppice_judge(0, 1, 0, 0, 1, 0, 1, low, 1, marks, LONG).code != ICECOPPICE_OTHER_LENGTH)
+        fail("a length of 65537", &r);
+}
+
+int main(void)
+{
+    check_cases();
+    check_null();
+    check_long_slices();
+    check_all_over();
+    for (unsigned i = 0; i < SMALL_REQUESTS; i++)
+        compare_some_request();
+    for (unsigned i = 0; i < JUDGED_PLANS; i++)
+        compare_some_plan();
+    for (unsigned i = 0; i < LARGE_REQUESTS; i++)
+        check_large_request();
+    print_tally();
+    printf("%-32s %7d\n", "large requests", LARGE_REQUESTS);
+    printf("all agree\n");
+    return 0;
+}

@@ -1,0 +1,94 @@
+/*
+ * The boost-window planner for C11: a filter that cuts load ranges and draws a plan, and a judge of finished plans.
+ *
+ * Link with target/staticlib/libc_api.a (`rt staticlib c_api`, x86-64 Linux). Both functions are proved for all values
+ * of their arguments. Nothing checks these declarations against their source, crates/c_api/src/lib.rt, but the test in
+ * desk/.
+ *
+ * What a caller owes: each pointer is aligned and has as many entries behind it as its length says (a length of 0 asks
+ * nothing of the pointer), and no slice lent to the filter overlaps another.
+ */
+#ifndef ICECOPPICE_H
+#define ICECOPPICE_H
+
+#include <stddef.h>
+#include <stdint.h>
+
+#ifdef __cplusplus
+extern "C" {
+#endif
+
+/* The most slots of a request. */
+#define ICECOPPICE_SLOTS 64
+
+/* Marks: one byte per slot. */
+#define ICECOPPICE_UNCOVERED 0
+#define ICECOPPICE_FIRST     1 /* the first slot of a window */
+#define ICECOPPICE_LATER     2 /* a later slot of a window, with its load over the threshold */
+#define ICECOPPICE_BRIDGE    3 /* a later slot of a window, with its load at most the threshold */
+
+/* Codes. Numbers from 21 on are refusals; the first that applies is given. */
+#define ICECOPPICE_YES             0  /* the filter: planned; the judge: yes */
+#define ICECOPPICE_NO              1  /* the filter: no plan; the judge: no */
+#define ICECOPPICE_FIRST_LENGTH    21 /* the first slice has 0 entries or more than 64 */
+#define ICECOPPICE_OTHER_LENGTH    22 /* another slice has a different length */
+#define ICECOPPICE_WINDOW_LENGTH   23 /* len is 0 or above the number of slots n */
+#define ICECOPPICE_BRIDGES         24 /* h > 0 and h + 1 >= len */
+#define ICECOPPICE_WINDOW_COUNTS   25 /* the least windows above the most, or the most above n */
+#define ICECOPPICE_COVERED_COUNTS  26 /* the least covered above the most, or the most above n */
+#define ICECOPPICE_CROSSED         31 /* the filter: a slot's lowest load above its highest */
+
+/*
+ * What the filter answers. All fields but the code are 0 where their comment does not apply. Each least number is over
+ * all plans within both maximums, by itself: one plan need not have both.
+ */
+struct icecoppice_answer {
+    uint16_t code;          /* planned, no plan, or a refusal */
+    size_t slot;            /* with code 31: the first slot whose lowest load is above its highest */
+    uint16_t windows_least; /* planned: the least number of windows, or the given minimum if that is larger */
+    uint16_t windows_most;  /* planned: the given maximum */
+    uint16_t covered_least; /* planned: the least number of covered slots, or the given minimum if that is larger */
+    uint16_t covered_most;  /* planned: the given maximum */
+};
+
+/* What the judge answers. Both counts are 0 unless the code is yes. */
+struct icecoppice_verdict {
+    uint16_t code;    /* yes, no, or a refusal */
+    uint16_t windows; /* yes: how many windows the plan has */
+    uint16_t covered; /* yes: how many slots it covers */
+};
+
+/*
+ * The settings, in both functions:
+ *   k                threshold; a load above it is over
+ *   len              the most slots of a window
+ *   h                the most bridges of a window
+ *   windows_least..  the range of the number of windows
+ *   covered_least..  the range of the number of covered slots
+ */
+
+/*
+ * Plans a burst. lowest and highest hold each slot's load range, marks is room for the plan; all three have one length.
+ *
+ * On "planned" the ranges are narrowed to the loads that occur in some plan, and marks holds a plan within both
+ * maximums. On "no plan" and on a refusal all three slices hold what they held before.
+ */
+struct icecoppice_answer icecoppice_filter(int32_t k, uint16_t len, uint16_t h,
+                                           uint16_t windows_least, uint16_t windows_most,
+                                           uint16_t covered_least, uint16_t covered_most,
+                                           int32_t *lowest, size_t lowest_length,
+                                           int32_t *highest, size_t highest_length,
+                                           uint8_t *marks, size_t marks_length);
+
+/* Judges a finished plan: yes exactly when the marks are legal for the loads and both counts keep their maximums. */
+struct icecoppice_verdict icecoppice_judge(int32_t k, uint16_t len, uint16_t h,
+                                           uint16_t windows_least, uint16_t windows_most,
+                                           uint16_t covered_least, uint16_t covered_most,
+                                           const int32_t *loads, size_t loads_length,
+                                           const uint8_t *marks, size_t marks_length);
+
+#ifdef __cplusplus
+}
+#endif
+
+#endif
