@@ -10,6 +10,7 @@ pub mod Ranges
 pub mod Rows
 pub mod Rules
 pub mod Scan
+pub mod Signs
 pub mod Steps
 pub mod Tally
 pub mod Told

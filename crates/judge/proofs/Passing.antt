@@ -35,14 +35,14 @@ one-le : {a : ℕ} → (a ≡ 0 → ⊥) → 1 ≤ a
 one-le {a = zero} f = absurd (f refl)
 one-le {a = suc a} f = omega arith
 
-clear : (number : ℕ) (applies : Bool) (rows : List Row) → first (row number applies ∷ rows) ≡ none →
+pub clear : (number : ℕ) (applies : Bool) (rows : List Row) → first (row number applies ∷ rows) ≡ none →
     (applies ≡ false) × (first rows ≡ none)
 unfolding first
 clear number true rows e = absurd (Option·some-ne-none _ e)
 clear number false rows e = (refl, e)
 
--- 21 and 23: a number is not 0, and at most a limit
-sized : (a most : ℕ) → ((eqb a 0 || ltb most a) ≡ false) ↔ ((1 ≤ a) × (a ≤ most))
+-- a number is not 0, and at most a limit (21 and 23)
+pub sized : (a most : ℕ) → ((eqb a 0 || ltb most a) ≡ false) ↔ ((1 ≤ a) × (a ≤ most))
 sized a most = (to, from)
   where
     to : (eqb a 0 || ltb most a) ≡ false → (1 ≤ a) × (a ≤ most)

@@ -2,7 +2,7 @@
 use Prim.Native.Nat.{ℕ, _+_, _≤_}
 use native.Mathlib.Omega.{arith}
 use mathlib.Core.Bool.{Bool, true, false}
-use mathlib.Core.List.{List, [], _∷_}
+use mathlib.Core.List.{List, [], _∷_, _++_}
 use mathlib.Core.Option.{Option, none, some, Option·some-ne-none, Option·some-injective}
 use mathlib.Core.Path.{_≡_, refl, sym, subst}
 use Rattle.judge.specs.Refusals.{Row, row, first, refusalBy, refusal}
@@ -20,6 +20,19 @@ module _ (number : ℕ) (applies : Bool) (rows : List Row) (b : Bool) (is : b �
 pub none-left : none ≡ first []
 unfolding first
 none-left = refl
+
+-- rows behind others: they are met where none of those applies
+pub earlier : (rows behind : List Row) {n : ℕ} → first rows ≡ some n → first (rows ++ behind) ≡ some n
+unfolding first
+earlier [] behind e = absurd (Option·some-ne-none _ (sym e))
+earlier (row number true ∷ rows) behind e = e
+earlier (row number false ∷ rows) behind e = earlier rows behind e
+
+pub later : (rows behind : List Row) → first rows ≡ none → first (rows ++ behind) ≡ first behind
+unfolding first
+later [] behind e = refl
+later (row number true ∷ rows) behind e = absurd (Option·some-ne-none _ e)
+later (row number false ∷ rows) behind e = later rows behind e
 
 -- what holds of every row's number holds of the one that is given
 abbrev Each : (ℕ → Type 0) → List Row → Type 0

@@ -1,0 +1,18 @@
+-- A line, field by field: each is written with the byte that ends it.
+use Prim.Native.Nat.{ℕ}
+use mathlib.Core.List.{List, [], _∷_, _++_}
+use lib.Seq.{append-snoc}
+use Rattle.listing.proofs.Writing.{then}
+use Rattle.listing.specs.Text.{Written, line}
+
+module _ (field : List ℕ) {p q : ℕ} {before between : List ℕ} where
+  pub last : Written (field ++ (10 ∷ [])) p before between q → Written (line (field ∷ [])) p before between q
+  unfolding line
+  last v = v
+
+  pub more : (next : List ℕ) (fields : List (List ℕ)) {r : ℕ} {after : List ℕ} → Written (field ++ (32 ∷ [])) p before between q →
+      Written (line (next ∷ fields)) q between after r → Written (line (field ∷ next ∷ fields)) p before after r
+  unfolding line
+  more next fields v w = rw append-snoc at (then v w)
+
+pub ruleset fields = (last, more)

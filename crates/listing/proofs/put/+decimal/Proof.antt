@@ -1,0 +1,86 @@
+-- `listing::put::decimal`, which calls itself, meets its contract: one digit, or those of the tenth and one more (`Decimals`).
+-- The measure is the number.
+use Prim.Native.Nat.{ℕ, _<_}
+use native.Mathlib.Omega.{arith}
+use borrow.Author.Needs.{needs}
+use borrow.Fn.Kinds.{In}
+use borrow.Fn.PlainCycle.{Measures, is, falls, and}
+use Rattle.listing.proofs.Decimals.{one-digit, more-digits}
+use Rattle.listing.proofs.Writing.{then}
+use Rattle.listing.proofs.put.decimal.Reads as decimal
+use Rattle.listing.proofs.put.decimal.Kinds as decimal-kinds
+use Rattle.listing.proofs.put.+decimal.Lts-decimal as decimal-lts
+use Rattle.listing.proofs.put.byte.Reads as byte-reads
+use Rattle.listing.proofs.put.+decimal.{statement}
+use Rattle.listing.proofs.put.+decimal.Tie.{close}
+
+abbrev μ-decimal : Measures 1 decimal-kinds.ps ℕ
+μ-decimal κs a = a .0
+
+module _ (t : ℕ) where
+  -- what it is given at the measure t, what a call of it asks below t, and the contracts of both calls
+  abbrev given : In 1 decimal-kinds.ps
+  given = and 1 decimal-kinds.ps (is 1 decimal-kinds.ps μ-decimal t) decimal.Pre
+
+  abbrev below : In 1 decimal-kinds.ps
+  below = and 1 decimal-kinds.ps (falls 1 decimal-kinds.ps _<_ μ-decimal t) decimal.Pre
+
+  abbrev calls : decimal-lts.Claims
+  calls = (byte-reads.Asked, byte-reads.Learnt, below, decimal.Post)
+
+  cast-byte : decimal-lts.Need-cast-byte calls given decimal.Post
+  cast-byte c = search needs
+
+  add-byte : decimal-lts.Need-add-byte calls given decimal.Post
+  add-byte c = search needs
+
+  byte-requires : decimal-lts.Need-byte-requires calls given decimal.Post
+  byte-requires c κs = search needs
+
+  same-length : decimal-lts.Need-same-length calls given decimal.Post
+  same-length c = search needs
+
+  returns : decimal-lts.Need-returns calls given decimal.Post
+  returns c =
+      let n = c .before .before .before .before .before .before .args .n in
+      rw (one-digit n (omega arith)) (c .before .before .byte .ensures)
+
+  decimal-requires : decimal-lts.Need-decimal-requires calls given decimal.Post
+  decimal-requires c κs = search needs
+
+  cast-byte-2 : decimal-lts.Need-cast-byte-2 calls given decimal.Post
+  cast-byte-2 c = search needs
+
+  add-byte-2 : decimal-lts.Need-add-byte-2 calls given decimal.Post
+  add-byte-2 c = search needs
+
+  byte-requires-2 : decimal-lts.Need-byte-requires-2 calls given decimal.Post
+  byte-requires-2 c κs = search needs
+
+  same-length-2 : decimal-lts.Need-same-length-2 calls given decimal.Post
+  same-length-2 c = search needs
+
+  returns-2 : decimal-lts.Need-returns-2 calls given decimal.Post
+  returns-2 c =
+      let tenth = c .before .before .before .before .before .before in
+      let n = tenth .before .before .before .before .args .n in
+      rw (more-digits n (omega arith)) (then (tenth .decimal .ensures) (c .before .before .byte2 .ensures))
+
+pub +decimal-spec : {M : Type 1} → statement M
++decimal-spec =
+    close μ-decimal λ t.
+    decimal-lts.spec
+    (calls t)
+    (given t)
+    decimal.Post
+    (cast-byte t)
+    (add-byte t)
+    (byte-requires t)
+    (same-length t)
+    (returns t)
+    (decimal-requires t)
+    (cast-byte-2 t)
+    (add-byte-2 t)
+    (byte-requires-2 t)
+    (same-length-2 t)
+    (returns-2 t)

@@ -1,0 +1,67 @@
+-- `listing::put::word` meets its contract. The loop's invariant: the bytes from number i on are left, and the one that ends the
+-- field (`Left`).
+use Prim.Native.Nat.{_-_}
+use native.Mathlib.Omega.{arith}
+use mathlib.Core.List.{[], _∷_, _++_}
+use mathlib.Core.Path.{_∙_}
+use borrow.Author.Needs.{needs}
+use lib.ListN.{length, drop}
+use Rattle.listing.proofs.Writing.{Left, all-left, byte-less, none-left, left-length, written-length}
+use Rattle.listing.proofs.put.word.Statement.{statement}
+use Rattle.listing.proofs.put.word.Tie as tie
+
+abbrev Inv-loop : tie.InvT-loop
+Inv-loop text end out₀ place behind₀ i₀ out behind i =
+    Left (text ++ (end ∷ [])) place out₀ (drop i text ++ (end ∷ [])) out behind
+
+abbrev μ-loop : tie.MeasureT-loop
+μ-loop text end out₀ place behind₀ i₀ out behind i = length text - i
+
+loop-holds : tie.Need-loop-holds Inv-loop μ-loop
+loop-holds c = all-left
+
+shared-slice-read-byte : tie.Need-shared-slice-read-byte Inv-loop μ-loop
+shared-slice-read-byte c = search needs
+
+byte-requires : tie.Need-byte-requires Inv-loop μ-loop
+byte-requires c κs = search needs
+
+add-i : tie.Need-add-i Inv-loop μ-loop
+add-i c = search needs
+
+loop-less : tie.Need-loop-less Inv-loop μ-loop
+loop-less c = search needs
+
+loop-again : tie.Need-loop-again Inv-loop μ-loop
+loop-again c =
+    let loop = c .before .before .before .before .before .before .loop in
+    byte-less _ _ (loop .i) (loop .inv) (omega arith) (c .before .before .byte .ensures)
+
+byte-requires-2 : tie.Need-byte-requires-2 Inv-loop μ-loop
+byte-requires-2 c κs = search needs
+
+same-length : tie.Need-same-length Inv-loop μ-loop
+same-length c =
+    let loop = c .before .before .before .before .before .loop in
+    written-length (c .before .before .byte2 .ensures) ∙ left-length (loop .inv)
+
+returns : tie.Need-returns Inv-loop μ-loop
+returns c =
+    let loop = c .before .before .before .before .before .loop in
+    none-left _ _ (loop .i) (loop .inv) (omega arith) .whole _ _ (c .before .before .byte2 .ensures)
+
+pub word-spec : {M : Type 1} → statement M
+word-spec =
+    tie.close
+    (tie.spec
+    Inv-loop
+    μ-loop
+    loop-holds
+    shared-slice-read-byte
+    byte-requires
+    add-i
+    loop-less
+    loop-again
+    byte-requires-2
+    same-length
+    returns)

@@ -1,0 +1,81 @@
+-- The text of an answer, in bytes of ASCII (document 01, "What the plan printer writes").
+use Prim.Native.Char.{code}
+use Prim.Native.Nat.{ℕ, zero, suc, _+_, _/_, _%_, min}
+use Prim.Native.String.{String}
+use Prim.Native.String as string
+use mathlib.Core.Bool.{cond}
+use mathlib.Core.List.{List, [], _∷_, _++_}
+use mathlib.Core.Path.{_≡_}
+use lib.Dec.{ltb}
+use lib.IntN.{ℤ, pos, negsuc}
+use lib.ListN.{length}
+use lib.Seq.{sets}
+use Rattle.judge.specs.declared.settings.CountRange.{CountRange}
+use Rattle.requests.specs.Promise.{Answer, refuses, no-plan, planned, Outcome}
+use Rattle.requests.specs.Request.{Refused, numbered, at-slot}
+
+-- the bytes of a text of ASCII
+abbrev pub ascii : String → List ℕ
+ascii string.[] = []
+ascii (string._∷_ c s) = code c ∷ ascii s
+
+-- numbers are decimal without leading zeros: a digit, or the digits of a tenth and one more. A tenth is smaller than the
+-- number, so that as many turns as the number says are enough. The digit 0 is the byte 48
+unfoldable pub digits : (turns n : ℕ) → List ℕ
+digits zero n = (48 + n) ∷ []
+digits (suc turns) n = cond (ltb n 10) ((48 + n) ∷ []) (digits turns (n / 10) ++ ((48 + n % 10) ∷ []))
+
+unfoldable pub decimal : ℕ → List ℕ
+decimal n = digits n n
+
+-- a negative one with a minus sign before it
+unfoldable pub signed : ℤ → List ℕ
+signed (pos n) = decimal n
+signed (negsuc n) = ascii "-" ++ decimal (suc n)
+
+-- one space between fields, each line ended by a line feed
+unfoldable pub line : List (List ℕ) → List ℕ
+line [] = ascii "\n"
+line (field ∷ []) = field ++ ascii "\n"
+line (field ∷ next ∷ fields) = field ++ (ascii " " ++ line (next ∷ fields))
+
+-- the word of a count range, least, most
+unfoldable pub counts : (word : List ℕ) → CountRange → List ℕ
+counts word range = line (word ∷ decimal (range .least) ∷ decimal (range .most) ∷ [])
+
+-- a slot's number, lowest load, highest load and mark
+unfoldable pub row : (i : ℕ) (lowest highest : ℤ) (mark : ℕ) → List ℕ
+row i lo hi m = line (decimal i ∷ signed lo ∷ signed hi ∷ decimal m ∷ [])
+
+-- the slots from number i on. The lists are of one length where the filter hands them back; else the shortest decides
+unfoldable pub rows : (i : ℕ) (lowest highest : List ℤ) (marks : List ℕ) → List ℕ
+rows i [] his ms = []
+rows i (lo ∷ los) [] ms = []
+rows i (lo ∷ los) (hi ∷ his) [] = []
+rows i (lo ∷ los) (hi ∷ his) (m ∷ ms) = row i lo hi m ++ rows (suc i) los his ms
+
+-- on a refusal `refused` and the number, and for 31 also `slot` and its number
+unfoldable pub refusal : Refused → List ℕ
+refusal (numbered number) = line (ascii "refused" ∷ decimal number ∷ [])
+refusal (at-slot number i) = line (ascii "refused" ∷ decimal number ∷ ascii "slot" ∷ decimal i ∷ [])
+
+-- on "planned" both count ranges, then the slots
+unfoldable pub said : Answer → (lowest highest : List ℤ) (marks : List ℕ) → List ℕ
+said (refuses r) los his ms = refusal r
+said no-plan los his ms = line (ascii "no plan" ∷ [])
+said (planned w c) los his ms = counts (ascii "windows") w ++ (counts (ascii "covered") c ++ rows 0 los his ms)
+
+-- the whole text
+unfoldable pub text : Outcome → List ℕ
+text o = said (o .answer) (o .lowest) (o .highest) (o .marks)
+
+-- A text written into a lent buffer from a place on: as much as there is room for, the rest of the buffer as it was. What comes
+-- back is the place behind it.
+pub record Written (text : List ℕ) (place : ℕ) (before after : List ℕ) (behind : ℕ) : Type 0 where
+  pub stored : after ≡ sets before place text
+  pub ends : behind ≡ min (place + length text) (length before)
+
+-- Room for the longest text of an answer with at most 64 slots: two lines of counts with 5 digits, and for each slot 2 digits,
+-- two loads of 11 bytes and a mark of 3 digits.
+abbrev pub room : ℕ
+room = 2024

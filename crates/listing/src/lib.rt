@@ -1,0 +1,43 @@
+// The text of an answer, as the plan printer writes it. What it is stands in specs/Text.antt.
+ghost use Prim.Native.Nat.{_≤_};
+ghost use lib.ListN.{length};
+ghost use Rattle.listing.specs.Text.{text, Written, room};
+ghost use Rattle.filter.specs.Answers.{handed};
+use filter::Answer;
+
+mod lines;
+mod put;
+
+pub use lines::refused;
+
+// Room for every text of at most 64 slots.
+pub const ROOM: usize = 2024;
+
+// Writes the text of what the filter handed back, and gives its length; less where the buffer is too short for it.
+pub fn answered(
+    answer: Answer,
+    lowest: &[i32],
+    highest: &[i32],
+    marks: &[u8],
+    out: &mut [u8],
+) -> usize
+    ensures { λ r. ⌜ Written
+        (text (handed answer (now (lowest .entry)) (now (highest .entry)) (now (marks .entry))))
+        0 (now (out .entry)) (now (out .exit)) r ⌝ }
+    ensures { λ _. ⌜ (length (now (lowest .entry)) ≤ 64 →
+        length (text (handed answer (now (lowest .entry)) (now (highest .entry)) (now (marks .entry)))) ≤ room) ⌝ }
+{
+    match answer {
+        Answer::Refused(refusal) => refused(refusal.number(), out),
+        Answer::Crossed(slot) => lines::crossed(slot, out),
+        Answer::NoPlan => lines::no_plan(out),
+        Answer::Planned { windows, covered } => lines::planned(
+            windows,
+            covered,
+            lowest,
+            highest,
+            marks,
+            out,
+        ),
+    }
+}

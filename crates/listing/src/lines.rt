@@ -1,0 +1,113 @@
+// The lines of an answer. Fields end in a space, the last one of a line in a line feed. A place is named after what is written
+// there.
+ghost use mathlib.Core.List.{[]};
+ghost use mathlib.Core.Path.{_≡_};
+ghost use Prim.Native.Nat.{_≤_, min};
+ghost use lib.ListN.{length};
+ghost use Rattle.listing.specs.Text.{counts as Text·counts, row as Text·row, rows as Text·rows};
+ghost use Rattle.listing.specs.Text.{said, refusal, Written, room};
+ghost use Rattle.requests.specs.Promise.{no-plan, planned as Promise·planned};
+ghost use Rattle.requests.specs.Request.{numbered, at-slot};
+use crate::put::number;
+use crate::put::signed;
+use crate::put::word;
+use judge::CountRange;
+
+const SPACE: u8 = b' ';
+
+const LINE_FEED: u8 = b'\n';
+
+// A count range, with its name before it.
+fn counts(name: &[u8], range: CountRange, out: &mut [u8], place: usize) -> usize
+    ensures { λ r. ⌜ Written (Text·counts (now (name .entry)) range) place (now (out .entry)) (now (out .exit)) r ⌝ }
+{
+    let least = word(name, SPACE, out, place);
+    let most = number(range.least as u64, SPACE, out, least);
+    number(range.most as u64, LINE_FEED, out, most)
+}
+
+// A slot.
+fn row(i: usize, lowest: i32, highest: i32, mark: u8, out: &mut [u8], place: usize) -> usize
+    ensures { λ r. ⌜ Written (Text·row i lowest highest mark) place (now (out .entry)) (now (out .exit)) r ⌝ }
+{
+    let low = number(i as u64, SPACE, out, place);
+    let high = signed(lowest, SPACE, out, low);
+    let last = signed(highest, SPACE, out, high);
+    number(mark as u64, LINE_FEED, out, last)
+}
+
+// All slots, up to the end of the shortest slice: with 31 bytes for each, at most 1984 for 64.
+fn rows(lowest: &[i32], highest: &[i32], marks: &[u8], out: &mut [u8], place: usize) -> usize
+    requires { ⌜ place ≤ length (now out) ⌝ }
+    ensures { λ r. ⌜ Written (Text·rows 0 (now (lowest .entry)) (now (highest .entry)) (now (marks .entry)))
+        place (now (out .entry)) (now (out .exit)) r ⌝ }
+    ensures { λ _. ⌜ (length (now (lowest .entry)) ≤ 64 →
+        length (Text·rows 0 (now (lowest .entry)) (now (highest .entry)) (now (marks .entry))) ≤ 1984) ⌝ }
+{
+    let n = smaller(lowest.len(), smaller(highest.len(), marks.len()));
+    let mut behind = place;
+    let mut i = 0;
+    while i < n {
+        let lo = lowest[i];
+        let hi = highest[i];
+        behind = row(i, lo, hi, marks[i], out, behind);
+        i += 1;
+    }
+    behind
+}
+
+fn smaller(a: usize, b: usize) -> usize
+    ensures { λ r. ⌜ r ≡ min a b ⌝ }
+{
+    if b < a {
+        return b;
+    }
+    a
+}
+
+// A refusal by its number alone, as that of a card that is not read.
+pub fn refused(code: u16, out: &mut [u8]) -> usize
+    ensures { λ r. ⌜ Written (refusal (numbered code)) 0 (now (out .entry)) (now (out .exit)) r ⌝ }
+    ensures { λ _. ⌜ length (refusal (numbered code)) ≤ room ⌝ }
+{
+    let behind = word(b"refused", SPACE, out, 0);
+    number(code as u64, LINE_FEED, out, behind)
+}
+
+// Refusal 31.
+pub(crate) fn crossed(i: usize, out: &mut [u8]) -> usize
+    ensures { λ r. ⌜ Written (refusal (at-slot 31 i)) 0 (now (out .entry)) (now (out .exit)) r ⌝ }
+    ensures { λ _. ⌜ length (refusal (at-slot 31 i)) ≤ room ⌝ }
+{
+    let code = word(b"refused", SPACE, out, 0);
+    let slot = number(31, SPACE, out, code);
+    let behind = word(b"slot", SPACE, out, slot);
+    number(i as u64, LINE_FEED, out, behind)
+}
+
+pub(crate) fn no_plan(out: &mut [u8]) -> usize
+    ensures { λ r. ⌜ Written (said no-plan [] [] []) 0 (now (out .entry)) (now (out .exit)) r ⌝ }
+    ensures { λ _. ⌜ length (said no-plan [] [] []) ≤ room ⌝ }
+{
+    word(b"no plan", LINE_FEED, out, 0)
+}
+
+// The lines of "planned".
+pub(crate) fn planned(
+    windows: CountRange,
+    covered: CountRange,
+    lowest: &[i32],
+    highest: &[i32],
+    marks: &[u8],
+    out: &mut [u8],
+) -> usize
+    ensures { λ r. ⌜ Written
+        (said (Promise·planned windows covered) (now (lowest .entry)) (now (highest .entry)) (now (marks .entry)))
+        0 (now (out .entry)) (now (out .exit)) r ⌝ }
+    ensures { λ _. ⌜ (length (now (lowest .entry)) ≤ 64 → length
+        (said (Promise·planned windows covered) (now (lowest .entry)) (now (highest .entry)) (now (marks .entry))) ≤ room) ⌝ }
+{
+    let second = counts(b"windows", windows, out, 0);
+    let slots = counts(b"covered", covered, out, second);
+    rows(lowest, highest, marks, out, slots)
+}

@@ -1,0 +1,57 @@
+// Bytes, words and numbers, written into a lent buffer from a place on. What comes back is the place behind them; a buffer that is
+// too short keeps what there is room for.
+ghost use mathlib.Core.List.{[], _∷_, _++_};
+ghost use Rattle.listing.specs.Text.{decimal as Text·decimal, signed as Text·signed, Written};
+
+fn byte(b: u8, out: &mut [u8], place: usize) -> usize
+    ensures { λ r. ⌜ Written (b ∷ []) place (now (out .entry)) (now (out .exit)) r ⌝ }
+{
+    if place < out.len() {
+        out[place] = b;
+        return place + 1;
+    }
+    out.len()
+}
+
+// The digits of the tenth, if there is one, and the last digit.
+fn decimal(n: u64, out: &mut [u8], place: usize) -> usize
+    ensures { λ r. ⌜ Written (Text·decimal n) place (now (out .entry)) (now (out .exit)) r ⌝ }
+{
+    if n < 10 {
+        return byte(b'0' + n as u8, out, place);
+    }
+    let last = decimal(n / 10, out, place);
+    byte(b'0' + (n % 10) as u8, out, last)
+}
+
+// A number and the byte that ends its field.
+pub(crate) fn number(n: u64, end: u8, out: &mut [u8], place: usize) -> usize
+    ensures { λ r. ⌜ Written (Text·decimal n ++ (end ∷ [])) place (now (out .entry)) (now (out .exit)) r ⌝ }
+{
+    let behind = decimal(n, out, place);
+    byte(end, out, behind)
+}
+
+// The same with a minus sign where x is negative.
+pub(crate) fn signed(x: i32, end: u8, out: &mut [u8], place: usize) -> usize
+    ensures { λ r. ⌜ Written (Text·signed x ++ (end ∷ [])) place (now (out .entry)) (now (out .exit)) r ⌝ }
+{
+    if x < 0 {
+        let digits = byte(b'-', out, place);
+        return number((!x) as u64 + 1, end, out, digits);
+    }
+    number(x as u64, end, out, place)
+}
+
+// A word and the byte that ends its field.
+pub(crate) fn word(text: &[u8], end: u8, out: &mut [u8], place: usize) -> usize
+    ensures { λ r. ⌜ Written (now (text .entry) ++ (end ∷ [])) place (now (out .entry)) (now (out .exit)) r ⌝ }
+{
+    let mut behind = place;
+    let mut i = 0;
+    while i < text.len() {
+        behind = byte(text[i], out, behind);
+        i += 1;
+    }
+    byte(end, out, behind)
+}

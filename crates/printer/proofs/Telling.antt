@@ -1,0 +1,32 @@
+-- What was read decides what is printed.
+use Prim.Native.Nat.{ℕ}
+use mathlib.Core.List.{List, []}
+use mathlib.Core.Path.{_≡_, refl, sym, subst, ap, _∙_}
+use lib.IntN.{ℤ}
+use lib.ListN.{take}
+use Rattle.card.specs.Reading.{number, handed, reading}
+use Rattle.card.specs.declared.Reading.{Reading}
+use Rattle.card.specs.declared.Reading.the-variants.{Refused, Taken}
+use Rattle.card.specs.declared.check.Refusal.{Refusal}
+use Rattle.filter.specs.Answers.{asked}
+use Rattle.judge.specs.declared.settings.Settings.{Settings}
+use Rattle.requests.specs.Promise.{refuses, Outcome, Keeps}
+use Rattle.requests.specs.Request.{numbered}
+use Rattle.printer.specs.Printing.{Answered, OfFile}
+
+-- the outcome of a refusal by its number; nothing more is printed of it
+abbrev pub refusal-of : (number : ℕ) → Outcome
+refusal-of number = record { answer = refuses (numbered number); lowest = []; highest = []; marks = [] }
+
+module _ (file : List ℕ) (los his : List ℤ) (ms : List ℕ) {r : Reading} {los′ his′ : List ℤ}
+    (read : handed r los′ his′ ≡ reading file los his) where
+  by : {q : Reading} → r ≡ q → (o : Outcome) →
+      Answered (handed q los′ his′ .answer) los′ his′ ms o → OfFile file los his ms o
+  by {q} e o a = subst (λ x. Answered (x .answer) (x .lowest) (x .highest) ms o) (ap (λ p. handed p los′ his′) (sym e) ∙ read) a
+
+  pub of-refusal : {f : Refusal} → r ≡ Refused f → OfFile file los his ms (refusal-of (number f))
+  of-refusal e = by e _ refl
+
+  pub of-plan : {s : Settings} {n : ℕ} → r ≡ Taken s n → (o : Outcome) →
+      Keeps (asked s (take n los′) (take n his′) (take n ms)) o → OfFile file los his ms o
+  of-plan e o keeps = by e o keeps
