@@ -1,18 +1,20 @@
 /*
  * Times the library's filter beside the same algorithm in plain C, on the same requests in the same run.
  *
- * `bench` prints the table. `bench data KIND N` prints one of its requests as MiniZinc data, for minizinc.sh.
+ * `bench` prints the table, and that of the watch below it. `bench data KIND N` prints one of the filter's requests as
+ * MiniZinc data, for minizinc.sh.
  */
 #define _XOPEN_SOURCE 700
 
 #include "plain.h"
+#include "timing.h"
+#include "watch.h"
 
 #include <inttypes.h>
 #include <stdbool.h>
 #include <stdio.h>
 #include <stdlib.h>
 #include <string.h>
-#include <time.h>
 #include <ucontext.h>
 
 enum { SAMPLES = 101, SAMPLE_NANOSECONDS = 200000 };
@@ -75,13 +77,6 @@ static struct icecoppice_answer ask(filter *f, struct request *r)
              r->lowest, r->n, r->highest, r->n, r->marks, r->n);
 }
 
-static double now(void)
-{
-    struct timespec t;
-    clock_gettime(CLOCK_MONOTONIC, &t);
-    return t.tv_sec * 1e9 + t.tv_nsec;
-}
-
 /* Nanoseconds of one call. The request is copied anew for each, since a call narrows it; both sides pay for that. */
 static double time_calls(filter *f, const struct request *r, unsigned calls)
 {
@@ -99,18 +94,6 @@ static unsigned calls_for_sample(filter *f, const struct request *r)
     while (time_calls(f, r, calls) * calls < SAMPLE_NANOSECONDS)
         calls *= 2;
     return calls;
-}
-
-static int by_size(const void *a, const void *b)
-{
-    double x = *(const double *)a, y = *(const double *)b;
-    return (x > y) - (x < y);
-}
-
-static double median(double *samples)
-{
-    qsort(samples, SAMPLES, sizeof *samples, by_size);
-    return samples[SAMPLES / 2];
 }
 
 /* Which plan is drawn is left open, so the marks are not compared. */
@@ -137,7 +120,7 @@ static void print_times(enum kind kind, size_t n)
         library[i] = time_calls(icecoppice_filter, &r, library_calls);
         plain[i] = time_calls(plain_filter, &r, plain_calls);
     }
-    double l = median(library), p = median(plain);
+    double l = median(library, SAMPLES), p = median(plain, SAMPLES);
     printf("%-12s %5zu %12.2f %12.2f %8.2f\n", kind_names[kind], n, l / 1000, p / 1000, l / p);
 }
 
@@ -220,5 +203,6 @@ int main(int count, char **arguments)
             print_times(kind, n);
     }
     print_stack();
+    print_watch_table();
     return 0;
 }

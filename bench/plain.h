@@ -1,4 +1,4 @@
-/* The library's algorithm for the filter, written plainly in C, to measure the library beside it. */
+/* The library's algorithms for the filter and for the watch's step, written plainly in C, to measure it beside them. */
 #ifndef PLAIN_H
 #define PLAIN_H
 
@@ -10,5 +10,7 @@ struct icecoppice_answer plain_filter(int32_t k, uint16_t len, uint16_t h,
                                       int32_t *lowest, size_t lowest_length,
                                       int32_t *highest, size_t highest_length,
                                       uint8_t *marks, size_t marks_length);
+
+struct icecoppice_stepped plain_watch_step(struct icecoppice_watch watch, int32_t load);
 
 #endif

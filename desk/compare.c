@@ -141,7 +141,7 @@ struct icecoppice_verdict compare_judge(const struct request *r)
     return got;
 }
 
-static void print_kind(const char *kind, unsigned long tally)
+void print_kind(const char *kind, unsigned long tally)
 {
     printf("%-32s %7lu\n", kind, tally);
     if (tally < 1000) {

@@ -29,7 +29,10 @@ struct icecoppice_verdict compare_judge(const struct request *r);
 /* Prints what is wrong and the request, and ends the test. */
 _Noreturn void fail(const char *what, const struct request *r);
 
-/* Prints how many answers of each kind were compared; fails if one is rare. */
+/* Prints how often a kind of answer came; fails if it is rare. */
+void print_kind(const char *kind, unsigned long tally);
+
+/* The same for each kind that was compared. */
 void print_tally(void);
 
 #endif

@@ -1,5 +1,6 @@
 #include "search.h"
 
+#include <limits.h>
 #include <stdlib.h>
 
 struct counts {
@@ -217,4 +218,31 @@ struct icecoppice_answer search_filter(const struct settings *s, int32_t *lowest
         .covered_least = larger(s->covered_least, f.least.covered),
         .covered_most = s->covered_most,
     };
+}
+
+/* Bit j of a string chooses between the two marks that go with the load of slot j. */
+static void choose_marks(uint32_t string, int32_t k, const int32_t *loads, uint8_t *marks, size_t n)
+{
+    for (size_t j = 0; j < n; j++) {
+        bool second = string >> j & 1;
+        if (loads[j] > k)
+            marks[j] = second ? ICECOPPICE_LATER : ICECOPPICE_FIRST;
+        else
+            marks[j] = second ? ICECOPPICE_BRIDGE : ICECOPPICE_UNCOVERED;
+    }
+}
+
+unsigned search_least_windows(int32_t k, unsigned len, unsigned h, const int32_t *loads, size_t n)
+{
+    unsigned least = UINT_MAX;
+    if (n > SEARCH_LOADS)
+        abort();
+    for (uint32_t string = 0; string < (uint32_t)1 << n; string++) {
+        uint8_t marks[SEARCH_LOADS];
+        choose_marks(string, k, loads, marks, n);
+        unsigned windows = counts_of(marks, n).windows;
+        if (windows < least && well_drawn(marks, n, len, h))
+            least = windows;
+    }
+    return least;
 }

@@ -12,6 +12,9 @@
 /* search_filter aborts at a request with more slots than this that it does not refuse. */
 #define SEARCH_SLOTS 8
 
+/* search_least_windows aborts at more loads than this. */
+#define SEARCH_LOADS 12
+
 struct settings {
     int32_t k;
     uint16_t len, h;
@@ -30,5 +33,8 @@ struct icecoppice_verdict search_judge(const struct settings *s, const int32_t *
 /* Whether the marks are legal for the ranges, with both counts within their maximums, for any number of slots. */
 bool search_is_plan(const struct settings *s, const int32_t *lowest, const int32_t *highest, const uint8_t *marks,
                     size_t n);
+
+/* The least number of windows over all marks that are legal for the loads, for any len and h. */
+unsigned search_least_windows(int32_t k, unsigned len, unsigned h, const int32_t *loads, size_t n);
 
 #endif

@@ -1,49 +1,21 @@
 /*
- * Holds the library to the search on the worked cases and on random small requests and plans, whole and damaged; and to
- * what follows from the definitions on large requests. The seed is fixed, so every run asks the same.
+ * Holds the library to the search on the worked cases and on random small requests and plans, whole and damaged; to
+ * what follows from the definitions on large requests; and the watch to what watch.h says. The seed is fixed, so every
+ * run asks the same.
  */
 #include "cases.h"
 #include "compare.h"
+#include "random.h"
+#include "watch.h"
 
 #include <stdio.h>
 #include <string.h>
 
 enum { SMALL_SLOTS = 6, SMALL_REQUESTS = 400000, JUDGED_PLANS = 400000, LARGE_REQUESTS = 100 };
 
-/* SplitMix64; the remainder's bias does no harm here. */
-static uint32_t below(uint32_t bound)
-{
-    static uint64_t state = 20241115;
-    state += 0x9e3779b97f4a7c15u;
-    uint64_t z = state;
-    z = (z ^ (z >> 30)) * 0xbf58476d1ce4e5b9u;
-    z = (z ^ (z >> 27)) * 0x94d049bb133111ebu;
-    return (uint32_t)((z ^ (z >> 31)) >> 32) % bound;
-}
-
-static bool one_in(uint32_t bound)
-{
-    return below(bound) == 0;
-}
-
-/* A number at or around k, zero, or an end of the range, where a wrong comparison would show. */
-static int32_t some_load(int32_t k)
-{
-    const int32_t points[] = {k, k, k, 0, INT32_MIN, INT32_MAX};
-    int64_t load = points[below(6)];
-    load += (int64_t)below(5) - 2;
-    if (load < INT32_MIN)
-        return INT32_MIN;
-    return load > INT32_MAX ? INT32_MAX : (int32_t)load;
-}
-
 static int32_t load_for_mark(int32_t k, uint8_t mark)
 {
-    int32_t load = some_load(k);
-    bool over = mark == ICECOPPICE_FIRST || mark == ICECOPPICE_LATER;
-    if (over && load <= k)
-        return k < INT32_MAX ? k + 1 : k; /* no load is over at the last k */
-    return !over && load > k ? k : load;
+    return load_on_side(k, mark == ICECOPPICE_FIRST || mark == ICECOPPICE_LATER);
 }
 
 static struct settings some_settings(size_t n)
@@ -322,8 +294,12 @@ int main(void)
         compare_some_plan();
     for (unsigned i = 0; i < LARGE_REQUESTS; i++)
         check_large_request();
+    check_watch_starts();
+    check_watch_counts();
+    check_watch_states();
     print_tally();
     printf("%-32s %7d\n", "large requests", LARGE_REQUESTS);
+    print_watch_tally();
     printf("all agree\n");
     return 0;
 }

@@ -1,16 +1,18 @@
 /*
- * The boost-window planner for C11: a filter that cuts load ranges and draws a plan, and a judge of finished plans.
+ * The boost-window planner for C11: a filter that cuts load ranges and draws a plan, a judge of finished plans, and a
+ * watch, which counts windows slot by slot.
  *
- * Link with target/staticlib/libc_api.a (`rt staticlib c_api`, x86-64 Linux). Both functions are proved for all values
- * of their arguments. Nothing checks these declarations against their source, crates/c_api/src/lib.rt, but the test in
- * desk/.
+ * Link with target/staticlib/libc_api.a (`rt staticlib c_api`, x86-64 Linux). The functions are proved for all values
+ * of their arguments. Nothing checks these declarations against their source, crates/c_api/src, but the test in desk/.
  *
  * What a caller owes: each pointer is aligned and has as many entries behind it as its length says (a length of 0 asks
- * nothing of the pointer), and no slice lent to the filter overlaps another.
+ * nothing of the pointer), and no slice lent to the filter overlaps another. The watch takes numbers only, and a caller
+ * owes it nothing.
  */
 #ifndef ICECOPPICE_H
 #define ICECOPPICE_H
 
+#include <stdbool.h>
 #include <stddef.h>
 #include <stdint.h>
 
@@ -21,6 +23,9 @@ extern "C" {
 /* The most slots of a request. */
 #define ICECOPPICE_SLOTS 64
 
+/* The most slots that a watch takes. */
+#define ICECOPPICE_WATCH_SLOTS 1000000
+
 /* Marks: one byte per slot. */
 #define ICECOPPICE_UNCOVERED 0
 #define ICECOPPICE_FIRST     1 /* the first slot of a window */
@@ -28,15 +33,17 @@ extern "C" {
 #define ICECOPPICE_BRIDGE    3 /* a later slot of a window, with its load at most the threshold */
 
 /* Codes. Numbers from 21 on are refusals; the first that applies is given. */
-#define ICECOPPICE_YES             0  /* the filter: planned; the judge: yes */
+#define ICECOPPICE_YES             0  /* the filter: planned; the judge: yes; the watch: started, or the load taken */
 #define ICECOPPICE_NO              1  /* the filter: no plan; the judge: no */
 #define ICECOPPICE_FIRST_LENGTH    21 /* the first slice has 0 entries or more than 64 */
 #define ICECOPPICE_OTHER_LENGTH    22 /* another slice has a different length */
-#define ICECOPPICE_WINDOW_LENGTH   23 /* len is 0 or above the number of slots n */
+#define ICECOPPICE_WINDOW_LENGTH   23 /* len is 0 or above the number of slots n; the watch: len is 0 or above 64 */
 #define ICECOPPICE_BRIDGES         24 /* h > 0 and h + 1 >= len */
 #define ICECOPPICE_WINDOW_COUNTS   25 /* the least windows above the most, or the most above n */
 #define ICECOPPICE_COVERED_COUNTS  26 /* the least covered above the most, or the most above n */
 #define ICECOPPICE_CROSSED         31 /* the filter: a slot's lowest load above its highest */
+#define ICECOPPICE_UNREACHED       32 /* the watch: a state that no accepted start and steps lead to */
+#define ICECOPPICE_FULL            33 /* the watch: 1,000,000 slots already taken */
 
 /*
  * What the filter answers. All fields but the code are 0 where their comment does not apply. Each least number is over
@@ -59,7 +66,34 @@ struct icecoppice_verdict {
 };
 
 /*
- * The settings, in both functions:
+ * The state of a watch: its settings, its counts, and what is left to the living window, the one that the next slot may
+ * still lie in. The caller keeps it; after each step the state that comes back replaces the one that went in.
+ */
+struct icecoppice_watch {
+    int32_t k;        /* threshold; a load above it is over */
+    uint16_t len;     /* the most slots of a window */
+    uint16_t h;       /* the most bridges of a window */
+    uint32_t taken;   /* how many slots were taken */
+    uint32_t windows; /* the least number of windows that covers their loads */
+    uint16_t room;    /* how many slots are left to the living window; 0 if none is alive */
+    uint16_t spare;   /* how many bridges are left to it; 0 if none is alive */
+};
+
+/* What a start gives. */
+struct icecoppice_started {
+    uint16_t code;                 /* 0, or the refusal 23 or 24 */
+    struct icecoppice_watch watch; /* code 0: no slot is taken yet; refused: every field is 0 */
+};
+
+/* What a step gives. */
+struct icecoppice_stepped {
+    uint16_t code;                 /* 0, or the refusal 32 or 33 */
+    bool opened;                   /* code 0: whether the load opened a window; refused: false */
+    struct icecoppice_watch watch; /* code 0: the state with one slot more; refused: the state that went in */
+};
+
+/*
+ * The settings, in the filter and the judge:
  *   k                threshold; a load above it is over
  *   len              the most slots of a window
  *   h                the most bridges of a window
@@ -86,6 +120,12 @@ struct icecoppice_verdict icecoppice_judge(int32_t k, uint16_t len, uint16_t h,
                                            uint16_t covered_least, uint16_t covered_most,
                                            const int32_t *loads, size_t loads_length,
                                            const uint8_t *marks, size_t marks_length);
+
+/* Starts a watch. */
+struct icecoppice_started icecoppice_watch_start(int32_t k, uint16_t len, uint16_t h);
+
+/* Takes one load more, with no maximum of the window count. */
+struct icecoppice_stepped icecoppice_watch_step(struct icecoppice_watch watch, int32_t load);
 
 #ifdef __cplusplus
 }

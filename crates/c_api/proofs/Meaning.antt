@@ -1,4 +1,4 @@
--- What a caller can tell from the numbers of an answer.
+-- What a caller can tell from the numbers of the filter's answer.
 use Prim.Native.Nat.{ℕ, _≤_}
 use native.Mathlib.Omega.{arith}
 use mathlib.Core.List.{List, [], _∷_}

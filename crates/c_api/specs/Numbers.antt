@@ -1,4 +1,4 @@
--- The answers of the C interface in numbers, and its promises.
+-- The answers of the filter and the judge for C in numbers, and their promises.
 use Prim.Native.Nat.{ℕ, _≤_}
 use mathlib.Core.Bool.{true, false}
 use mathlib.Core.List.{List}

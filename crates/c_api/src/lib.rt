@@ -1,4 +1,5 @@
-// The filter and the judge for C: on numbers and slices, under names with a prefix. include/icecoppice.h declares them.
+// The filter and the judge for C, on numbers and slices, and the watch: under names with a prefix. include/icecoppice.h declares
+// them.
 ghost use mathlib.Core.Path.{_≡_};
 ghost use Rattle.judge.specs.Judgment.{judgment, told as Judgment·told};
 ghost use Rattle.filter.specs.Answers.{asked, told as Answers·told};
@@ -9,6 +10,13 @@ use judge::CountRange;
 use judge::Settings;
 use judge::Verdict;
 use judge::judge;
+
+mod watches;
+
+pub use watches::StartNumbers;
+pub use watches::StepNumbers;
+pub use watches::icecoppice_watch_start;
+pub use watches::icecoppice_watch_step;
 
 // What the filter answers, in numbers: 0 planned, 1 no plan, else the refusal's; what does not apply is 0.
 #[repr(C)]

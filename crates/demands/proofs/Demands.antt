@@ -24,6 +24,7 @@ use Rattle.requests.proofs.Outcomes.{refused-so}
 use Rattle.requests.specs.Promise.{Answers}
 use Rattle.requests.specs.Request.{Request}
 use Rattle.demands.proofs.Measure.{delivers, delivers-covered}
+use Rattle.demands.proofs.Watching.{counting}
 use Rattle.demands.specs.Demands.{Demand1, Demand2, Demands}
 
 demand1 : Demand1
@@ -91,6 +92,7 @@ demand2 =
       focus = λ r o f h most. delivers r (f .well) _ (λ X n yc S. rw (h, most, ← n) (corners r X yc 0 S .focus)) o (f .kept);
       judge-sound = sound;
       judge-complete = complete;
+      watch = counting;
     }
 
 pub demands : Demands

@@ -42,6 +42,13 @@ true-least {r} {D} {given = given} into back raised =
       maximum = raised .maximum;
     }
 
+-- legal marks draw windows within every maximum that they are within
+pub drawn-by : {k : ℤ} {len h : ℕ} (X : List ℤ) (ms : List ℕ) (yc zc : ℕ) → 1 ≤ len → legal k len h X ms ≡ true →
+    windows ms ≤ yc → covered ms ≤ zc → Obeys k len h yc zc X (runs 0 ms)
+drawn-by {k} {len} {h} X ms yc zc one e few short =
+    let (o, number, summed) = theorems .draws k len h X ms one e in
+    recount X _ _ _ _ _ _ o (omega (arith, number, few)) (omega (arith, summed, short))
+
 module _ (r : Request) (w : WellFormed r) where
   abbrev s : Settings
   s = r .settings
@@ -56,14 +63,7 @@ module _ (r : Request) (w : WellFormed r) where
   abbrev Rule : List ℤ → (yc zc : ℕ) → List Run → Type 0
   Rule X yc zc S = Obeys (s .k) (s .len) (s .h) yc zc X S
 
-  -- legal marks within the maximums draw such windows
-  drawn-by : (X : List ℤ) (ms : List ℕ) (yc zc : ℕ) → legal (s .k) (s .len) (s .h) X ms ≡ true → windows ms ≤ yc → covered ms ≤ zc →
-      Rule X yc zc (runs 0 ms)
-  drawn-by X ms yc zc e few short =
-      let (o, number, summed) = theorems .draws (s .k) (s .len) (s .h) X ms one e in
-      recount X _ _ _ _ _ _ o (omega (arith, number, few)) (omega (arith, summed, short))
-
-  -- and such windows are drawn by a plan
+  -- such windows are drawn by a plan
   plan-of : (X : List ℤ) (yc zc : ℕ) (S : List Run) →
       ChosenIn (ranges r) X → yc ≤ s .windows .most → zc ≤ s .covered .most → Rule X yc zc S →
       (ms : List ℕ) × PlanOf r ms × (legal (s .k) (s .len) (s .h) X ms ≡ true) × (windows ms ≤ yc) × (covered ms ≤ zc)
@@ -81,7 +81,7 @@ module _ (r : Request) (w : WellFormed r) where
     satisfied : (ms : List ℕ) → PlanOf r ms → (yc : ℕ) → windows ms ≤ yc → Satisfied r D yc
     satisfied ms p yc few =
         let (X, c, e) = p .in-rule in
-        (X, c, runs 0 ms, is X (wide X c) yc _ .1 (drawn-by X ms yc _ e few (p .covered-fit)))
+        (X, c, runs 0 ms, is X (wide X c) yc _ .1 (drawn-by X ms yc _ one e few (p .covered-fit)))
 
     planned : (yc : ℕ) → yc ≤ s .windows .most → Satisfied r D yc → (ms : List ℕ) × PlanOf r ms × (windows ms ≤ yc)
     planned yc most (X, c, S, d) =
@@ -97,7 +97,7 @@ module _ (r : Request) (w : WellFormed r) where
         l .occurs,
         runs 0 (l .marks),
         is (l .loads) (wide _ (l .chosen)) _ _ .1
-            (drawn-by (l .loads) (l .marks) _ _ (l .in-rule) (l .plan .windows-fit) (l .plan .covered-fit)),
+            (drawn-by (l .loads) (l .marks) _ _ one (l .in-rule) (l .plan .windows-fit) (l .plan .covered-fit)),
       )),
       (λ (X, c, there, occurs, S, d).
           let (ms, p, e, few, short) = plan-of X _ _ S c (le-refl _) (le-refl _) (is X (wide X c) _ S .0 d) in
@@ -114,7 +114,7 @@ module _ (r : Request) (w : WellFormed r) where
           d .loads,
           d .chosen,
           is (d .loads) as-many _ _ .1
-              (drawn-by (d .loads) (o .marks) _ _ (allow .in-rule) (allow .windows-fit) (allow .covered-fit)),
+              (drawn-by (d .loads) (o .marks) _ _ one (allow .in-rule) (allow .windows-fit) (allow .covered-fit)),
         )
 
     pub delivers : (o : Outcome) → Keeps r o → Delivers r D o
@@ -143,7 +143,7 @@ module _ (r : Request) (w : WellFormed r) where
         covered = λ v c e. true-least
             (λ ms p.
             let (X, c, e) = p .in-rule in
-            (p .covered-fit, (X, c, runs 0 ms, is X (wide X c) _ _ .1 (drawn-by X ms _ _ e (p .windows-fit) (le-refl _)))))
+            (p .covered-fit, (X, c, runs 0 ms, is X (wide X c) _ _ .1 (drawn-by X ms _ _ one e (p .windows-fit) (le-refl _)))))
             (λ u (most, (X, c, S, d)).
             let (ms, p, e, few, short) = plan-of X _ u S c (le-refl _) most (is X (wide X c) u S .0 d) in
             (ms, p, short))

@@ -1,5 +1,5 @@
--- The three demands, as far as they stand: of what the filter hands back, of what the judge says, and of the definitions. Proved in
--- proofs/Demands.antt, each line from where it is proved.
+-- The three demands, as far as they stand: of what the filter hands back, of what the judge says, of the watch's count, and of the
+-- definitions. Proved in proofs/Demands.antt, each line from where it is proved.
 --
 -- What the filter hands back for a request r is an outcome o with `Keeps r o`: that is the contract of `filter`
 -- (crates/filter/src/lib.rt), for all inputs. Each line below that has `Keeps` speaks of it, and by the contract alone.
@@ -20,6 +20,8 @@ use Rattle.published.specs.Published.{Run, size, sum, _⊆_, Focus, SpringyFocu
 use Rattle.requests.specs.Demand3.{Demand3}
 use Rattle.requests.specs.Promise.{refuses as Answer·refuses, no-plan, planned, Outcome, Held, Unaltered, Keeps, Alike}
 use Rattle.requests.specs.Request.{Request, slots, paired, ranges, at, Refused, refused, WellFormed}
+use Rattle.watch.specs.States.{Leads}
+use Rattle.watch.specs.declared.start.Watch.{Watch}
 
 -- Demand 1: every input gets a result or one numbered refusal. That the functions do so stands in their contracts, which have no
 -- `requires`: the filter's; what `judge` tells is `judgment` (crates/judge/src/verdict.rt); what `choose` hands back is `Chosen`
@@ -106,8 +108,11 @@ pub record Demand2 : Type 0 where
   pub judge-complete : (s : Settings) (X : List ℤ) → refusal (length X) (length X ∷ []) s ≡ none → (S : List Run) →
       WeightedSpringyFocus X (s .windows .most) (s .len) (s .h) (s .k) (s .covered .most) S →
       (ms : List ℕ) × (judgment s X ms ≡ says true (length S) (sum size S)) × (runs 0 ms ⊆ S) × (S ⊆ runs 0 ms)
+  -- the watch counts the least number of windows, without a maximum, for the loads that led to its state
+  pub watch : (k : ℤ) (len h : ℕ) (X : List ℤ) (w : Watch) → Leads k len h X w →
+      Least (λ yc. (S : List Run) × SpringyFocus X yc len h k S) (w .windows)
 
--- Demand 3 stands in crates/filter/specs/Demand3.antt.
+-- Demand 3 stands in crates/requests/specs/Demand3.antt.
 pub record Demands : Type 0 where
   pub first : Demand1
   pub second : Demand2

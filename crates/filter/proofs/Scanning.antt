@@ -8,7 +8,7 @@ use mathlib.Core.Logic.{_⊎_, ⊎-elim}
 use borrow.Author.Tests.{ne-eqb}
 use lib.Dec.{eqb}
 use lib.ListN.{length, drop, getD, drop-of-length-le, length-map, List·getD-map}
-use Rattle.judge.proofs.Rules.{uncons}
+use Rattle.judge.proofs.Rules.{uncons, either-way}
 use Rattle.judge.specs.Ranges.{Class, allows}
 use Rattle.judge.specs.declared.settings.Settings.{Settings}
 use Rattle.requests.specs.Best.{spend, dearer, best, onward, after}
@@ -19,10 +19,6 @@ use Rattle.filter.specs.declared.rows.Going.{Going}
 
 less-one : (n : ℕ) → suc n - 1 ≡ n
 less-one n = omega arith
-
-either-way : {A : Type 0} (P : A → Type 0) (b : Bool) {x y : A} → P x → P y → P (cond b x y)
-either-way P true p q = p
-either-way P false p q = q
 
 -- the classes from a slot on
 pub from-slot : (classes : List ℕ) (i : ℕ) → i < length classes →

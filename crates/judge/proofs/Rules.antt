@@ -48,8 +48,12 @@ refuted false f = refl
 pub uncons : {A : Type 0} (l : List A) (i : ℕ) (d : A) → i < length l → drop i l ≡ getD l i d ∷ drop (i + 1) l
 uncons l i d h = rw add-one (drop-cons l i d h)
 
+-- what holds of both sides of a test
+pub either-way : {A : Type 0} (P : A → Type 0) (b : Bool) {x y : A} → P x → P y → P (cond b x y)
+either-way P true p q = p
+either-way P false p q = q
+
 pub at-most : (b : Bool) (x y : ℕ) {n : ℕ} → x ≤ n → y ≤ n → cond b x y ≤ n
-at-most true x y h k = h
-at-most false x y h k = k
+at-most b x y {n} h k = either-way (λ z. z ≤ n) b h k
 
 pub ruleset rules = (and-false, or-false, lt-ltb, le-ltb, le-leb, lt-leb, eq-eqb, ne-eqb, toZ-ofZ, arith)

@@ -1,9 +1,10 @@
 -- The rule of plans, written from document 01. A plan is a list of marks, one byte per slot: 0 uncovered, 1 first slot of a
 -- window, 2 a later over slot of it, 3 a bridge ("A plan as marks"); a bridge, in document 01's term, is an under slot in a
 -- window. Loads and the threshold k are integers: every k is taken ("The rule, by source").
-use Prim.Native.Nat.{ℕ, suc}
+use Prim.Native.Nat.{ℕ, suc, _≤_}
 use mathlib.Core.Bool.{Bool, true, false, cond, not, _&&_, _||_}
 use mathlib.Core.List.{List, [], _∷_}
+use mathlib.Core.Path.{_≡_}
 use lib.Dec.{leb, eqb}
 use lib.IntN.{ℤ}
 use lib.ListN.{length}
@@ -83,3 +84,8 @@ windows marks = count (λ m. eqb m 1) marks
 
 unfoldable pub covered : List ℕ → ℕ
 covered marks = count (λ m. not (eqb m 0)) marks
+
+-- v is the least of a count over the marks that P holds of
+pub record LeastOver (P : List ℕ → Type 0) (count : List ℕ → ℕ) (v : ℕ) : Type 0 where
+  pub met : (ms : List ℕ) × P ms × (count ms ≡ v)
+  pub least : (ms : List ℕ) → P ms → v ≤ count ms

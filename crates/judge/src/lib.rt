@@ -8,6 +8,7 @@ mod verdict;
 pub use choice::choose;
 pub use settings::Checked;
 pub use settings::CountRange;
+pub use settings::LIMIT;
 pub use settings::Refusal;
 pub use settings::Settings;
 pub use settings::check;

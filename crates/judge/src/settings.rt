@@ -5,7 +5,7 @@ ghost use Rattle.judge.specs.Refusals.{number as Refusals·number, check
 ghost use Rattle.judge.specs.Refusals.{wrongSlots, wrongOther, wrongLength, wrongBridges, wrongCounts};
 
 // The most slots of a plan.
-const LIMIT: usize = 64;
+pub const LIMIT: usize = 64;
 
 // A range of counts, both ends included.
 pub struct CountRange {

@@ -12,14 +12,14 @@ use Rattle.judge.proofs.Allowing.{allowing, saying}
 use Rattle.judge.proofs.Onward.{as-long}
 use Rattle.judge.proofs.Passing.{Passing, passing, beside}
 use Rattle.judge.specs.Ranges.{Class}
-use Rattle.judge.specs.Rule.{carries, legal, windows, covered}
+use Rattle.judge.specs.Rule.{carries, legal, windows, covered, LeastOver}
 use Rattle.judge.specs.declared.settings.Settings.{Settings}
 use Rattle.requests.proofs.Choices.{from-slots}
 use Rattle.requests.proofs.Least.{least-windows, least-covered}
 use Rattle.requests.proofs.Narrowing.{along-length, along-at, stays, exact}
 use Rattle.requests.proofs.Requests.{Formed, formed, FitsAt, small, width, chosen-slots, possible→fits, fits→possible, plan→fits, fits→plan}
 use Rattle.requests.specs.Promise.{Outcome, lowestAfter, highestAfter, Narrowed, Drawn, Keeps}
-use Rattle.requests.specs.Request.{Request, slots, at, Refused, refused, WellFormed, PlanOf, LeastOver}
+use Rattle.requests.specs.Request.{Request, slots, at, Refused, refused, WellFormed, PlanOf}
 use Rattle.requests.specs.Solution.{sentinel, classes, cheapest, sparsest, possible, loss, found, outcomeBy, outcome}
 
 leasts : {P Q : List ℕ → Type 0} {count : List ℕ → ℕ} {v : ℕ} → ((ms : List ℕ) → P ms → Q ms) → ((ms : List ℕ) → Q ms → P ms) →

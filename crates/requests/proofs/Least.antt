@@ -9,10 +9,9 @@ use mathlib.Core.Path.{_≡_, refl, sym, subst}
 use borrow.Author.Tests.{leb-true, leb-false}
 use lib.Dec.{leb}
 use Rattle.judge.specs.Ranges.{Class, allows}
-use Rattle.judge.specs.Rule.{legalBy, windows, covered}
+use Rattle.judge.specs.Rule.{legalBy, windows, covered, LeastOver}
 use Rattle.requests.proofs.Exact.{Fits, at-least, met}
 use Rattle.requests.specs.Best.{best, fewest}
-use Rattle.requests.specs.Request.{LeastOver}
 
 module _ (T room h : ℕ) (cs : List Class) where
   -- v is the first of the window counts from w on with which at most c slots are covered

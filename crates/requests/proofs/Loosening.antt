@@ -7,7 +7,7 @@ use mathlib.Core.Bool.{true}
 use lib.IntN.{ℤ}
 use Rattle.judge.proofs.Loosening.{loosened}
 use Rattle.judge.specs.Ranges.{ChosenIn}
-use Rattle.judge.specs.Rule.{carries, legal, windows, covered}
+use Rattle.judge.specs.Rule.{carries, legal, windows, covered, LeastOver}
 use Rattle.judge.specs.declared.settings.CountRange.{CountRange}
 use Rattle.requests.proofs.Choices.{in-slots, from-slots}
 use Rattle.requests.proofs.Integers.{≤ℤ-trans}
@@ -15,7 +15,7 @@ use Rattle.requests.proofs.Outcomes.{planned-so, planned-where}
 use Rattle.requests.proofs.Requests.{formed, width, chosen-slots}
 use Rattle.requests.specs.Demand3.{Wider, Looser, Loosens, LoosensAnswer}
 use Rattle.requests.specs.Promise.{Raised, planned, Outcome, Keeps}
-use Rattle.requests.specs.Request.{Request, slots, ranges, WellFormed, PlanOf, LeftAt, LeastOver}
+use Rattle.requests.specs.Request.{Request, slots, ranges, WellFormed, PlanOf, LeftAt}
 
 module _ (t l : Request) (t-formed : WellFormed t) (l-formed : WellFormed l) (looser : Looser l t) where
   chosen : (xs : List ℤ) → ChosenIn (ranges t) xs → ChosenIn (ranges l) xs

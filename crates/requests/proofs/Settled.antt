@@ -13,7 +13,7 @@ use Rattle.judge.proofs.Onward.{as-long}
 use Rattle.judge.proofs.Passing.{Passing, beside}
 use Rattle.judge.proofs.Tally.{windows-le}
 use Rattle.judge.specs.Ranges.{under-only, over-only, classOf}
-use Rattle.judge.specs.Rule.{carries, windows, covered}
+use Rattle.judge.specs.Rule.{carries, windows, covered, LeastOver}
 use Rattle.requests.proofs.Choices.{paired-set, replaced-proper, replaced-class}
 use Rattle.requests.proofs.Integers.{lt→suc-le, le→lt-suc}
 use Rattle.requests.proofs.Outcomes.{planned-so, none-so, planned-where}
@@ -21,7 +21,7 @@ use Rattle.requests.proofs.Requests.{Formed, formed, class-slots, chose
 use Rattle.requests.proofs.Settling.{settled-under, settled-over}
 use Rattle.requests.specs.Demand3.{LeastUnlimited, Settles, unlimited, Counts, SettlesAnswer}
 use Rattle.requests.specs.Promise.{Outcome, Keeps}
-use Rattle.requests.specs.Request.{range, Request, slots, ranges, at, paired, PlanOf, UnlimitedPlanOf, LeastOver, Open, settledUnder, settledOver}
+use Rattle.requests.specs.Request.{range, Request, slots, ranges, at, paired, PlanOf, UnlimitedPlanOf, Open, settledUnder, settledOver}
 
 -- the plans with the window maximum ignored are those of the window range 0 to n
 module _ (r : Request) (good : Formed r) where

@@ -9,7 +9,7 @@ use lib.ListN.{length, getD, set}
 use lib.Signed.{ltZ, _<ℤ_, _≤ℤ_}
 use Rattle.judge.specs.Ranges.{Range, ChosenIn, LegalFor}
 use Rattle.judge.specs.Refusals.{refusal}
-use Rattle.judge.specs.Rule.{legal, windows, covered}
+use Rattle.judge.specs.Rule.{legal, windows, covered, LeastOver}
 use Rattle.judge.specs.declared.settings.Settings.{Settings}
 
 -- what the filter is given: the settings and what the three lent slices hold. What the marks hold plays no part
@@ -85,11 +85,6 @@ pub record LeftAt (r : Request) (i : ℕ) (x : ℤ) : Type 0 where
   pub in-rule : legal (r .settings .k) (r .settings .len) (r .settings .h) loads marks ≡ true
   pub there : i < length loads
   pub occurs : at loads i ≡ x
-
--- v is the least of a count over the marks that P holds of
-pub record LeastOver (P : List ℕ → Type 0) (count : List ℕ → ℕ) (v : ℕ) : Type 0 where
-  pub met : (ms : List ℕ) × P ms × (count ms ≡ v)
-  pub least : (ms : List ℕ) → P ms → v ≤ count ms
 
 -- its two least counts are the least over its plans, each taken by itself
 abbrev pub LeastWindows : Request → ℕ → Type 0

@@ -1,0 +1,12 @@
+/* A clock, and the middle of what it showed. */
+#ifndef TIMING_H
+#define TIMING_H
+
+#include <stddef.h>
+
+double now(void); /* in nanoseconds */
+
+/* Sorts the samples. */
+double median(double *samples, size_t count);
+
+#endif

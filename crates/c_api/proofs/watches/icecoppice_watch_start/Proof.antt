@@ -1,0 +1,47 @@
+-- `c_api::watches::icecoppice_watch_start` meets its contract: an arm for each answer.
+use mathlib.Core.Path.{_≡_, ap, sym, _∙_}
+use borrow.Author.Needs.{needs}
+use mir.Facts.{toZ-ofZ}
+use Rattle.watch.specs.Promise.{started, starting}
+use Rattle.c_api.specs.WatchNumbers.{startOf}
+use Rattle.c_api.proofs.watches.icecoppice_watch_start.Statement.{statement}
+use Rattle.c_api.proofs.watches.icecoppice_watch_start.Tie as tie
+
+start-requires : tie.Need-start-requires
+start-requires c κs = search needs
+
+told : (c : tie.After-start) → let args = c .before .args in started (c .start .result) ≡ starting (args .k) (args .len) (args .h)
+told c = simp (toZ-ofZ, c .before .fits .k) at (c .start .ensures)
+
+enum-known-started : tie.Need-enum-known-started
+enum-known-started c = search needs
+
+enum-known-started-2 : tie.Need-enum-known-started-2
+enum-known-started-2 c = search needs
+
+number-requires : tie.Need-number-requires
+number-requires c κs = search needs
+
+no-watch-requires : tie.Need-no-watch-requires
+no-watch-requires c κs = search needs
+
+returns : tie.Need-returns
+returns c = ap startOf (sym (ap started (c .before .started .given .1)) ∙ told (c .before .before .before))
+
+returns-2 : tie.Need-returns-2
+returns-2 c =
+    let k = c .before .before .before in
+    rw (c .before .number .ensures, c .no-watch .ensures)
+    (ap startOf (sym (ap started (k .started2 .given .1)) ∙ told (k .before .before)))
+
+pub icecoppice-watch-start-spec : {M : Type 1} → statement M
+icecoppice-watch-start-spec =
+    tie.close
+    (tie.spec
+    start-requires
+    enum-known-started
+    enum-known-started-2
+    number-requires
+    no-watch-requires
+    returns
+    returns-2)

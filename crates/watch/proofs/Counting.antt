@@ -1,0 +1,145 @@
+-- A watch opens the least number of windows: never more than a plan has, and some plan has as many.
+use Prim.Native.Nat.{ℕ, zero, suc, pred, _+_, _≤_}
+use native.Mathlib.Nat.{le-refl}
+use native.Mathlib.Numerals.{sub-one}
+use native.Mathlib.Omega.{arith}
+use mathlib.Core.Bool.{Bool, true, cond}
+use mathlib.Core.List.{List, [], _∷_}
+use mathlib.Core.Logic.{_⊎_, inl, inr}
+use mathlib.Core.Path.{_≡_, refl}
+use lib.Dec.{eqb, eqb·suc-zero}
+use lib.IntN.{ℤ}
+use lib.Signed.{_<ℤ_, _≤ℤ_}
+use Rattle.judge.proofs.Loads.{side, lt→over, le→under, carried-over, carried-under, carry-over, carry-under}
+use Rattle.judge.proofs.Plan.{State, out, on, Plan, done, skip, opens, close, more, bridges, legal→plan, plan→legal}
+use Rattle.judge.specs.Rule.{over, goesWith, carries, count, windows}
+use Rattle.watch.proofs.Reaching.{settled}
+use Rattle.watch.specs.Promise.{Least, CaseL}
+use Rattle.watch.specs.States.{begun, afterOver, afterUnder, after, led}
+use Rattle.watch.specs.declared.start.Watch.{Watch}
+
+-- of r slots and b bridges left to a window, the slots left behind an under load
+abbrev left : (r b : ℕ) → ℕ
+left zero b = 0
+left (suc r) zero = 0
+left (suc r) (suc b) = r
+
+module _ (k : ℤ) (room h : ℕ) where
+  -- marks for loads, as the family in which plans are proved
+  abbrev Marks : State → List ℤ → List ℕ → Type 0
+  Marks = Plan (λ m x. carries k x m ≡ true) 0 room h
+
+  -- a watch that opened n windows, with r slots left to the living one, and b bridges if r is not 0
+  data Stands : (n r b : ℕ) → Watch → Type 0 where
+    stands : {t n r b : ℕ} →
+        Stands n r b
+        (record { k = k; len = suc room; h = h; taken = t; windows = n; room = r; spare = cond (eqb r 0) 0 b })
+
+  fresh : Stands 0 0 0 (begun k (suc room) h)
+  fresh = stands
+
+  -- where it stands behind a load
+  over-opens : {n b : ℕ} {w : Watch} {x : ℤ} → Stands n 0 b w → k <ℤ x → Stands (n + 1) room h (after w x)
+  unfolding after afterOver
+  over-opens stands l = simp (lt→over l, sub-one) stands
+
+  over-uses : {n r b : ℕ} {w : Watch} {x : ℤ} → Stands n (suc r) b w → k <ℤ x → Stands n r b (after w x)
+  unfolding after afterOver
+  over-uses stands l = simp (lt→over l, sub-one, eqb·suc-zero) stands
+
+  under : {n : ℕ} {w : Watch} {x : ℤ} (r b : ℕ) → Stands n r b w → x ≤ℤ k → Stands n (left r b) (pred b) (after w x)
+  unfolding after afterUnder
+  under zero b stands l = simp (le→under l) stands
+  under (suc r) zero stands l = simp (le→under l, eqb·suc-zero) stands
+  under (suc r) (suc b) stands l = simp (le→under l, sub-one, eqb·suc-zero) stands
+
+  -- a watch with r slots and b bridges left, beside a plan: in the plan's window it has as much left, or is d = 1 window ahead
+  data Beside (r b : ℕ) : (d : ℕ) → State → Type 0 where
+    outside : Beside r b 0 (out 0)
+    level : {c : Bool} {r′ b′ : ℕ} → r′ ≤ r → b′ ≤ b → Beside r b 0 (on c r′ b′)
+    ahead : {c : Bool} {r′ b′ : ℕ} → r′ ≤ room → b′ ≤ h → Beside r b 1 (on c r′ b′)
+
+  -- it opens no more windows than the plan has, apart from d
+  floor : {n d : ℕ} {w : Watch} {st : State} {xs : List ℤ} {ms : List ℕ} →
+      Marks st xs ms → (r b : ℕ) → Stands n r b w → Beside r b d st → led w xs .windows ≤ n + windows ms + d
+  unfolding led goesWith windows count
+  floor done r b stands outside = omega arith
+  floor (skip m p) r b s outside = floor p _ _ (under r b s (carried-under 0 refl m)) outside
+  floor (opens m p) zero b s outside =
+      let q = floor p room h (over-opens s (carried-over 1 refl m)) (level (le-refl _) (le-refl _)) in
+      omega (arith, q)
+  floor (opens m p) (suc r) b s outside =
+      let q = floor p r b (over-uses s (carried-over 1 refl m)) (ahead (le-refl _) (le-refl _)) in
+      omega (arith, q)
+  floor (close p) r b s (level e f) = floor p r b s outside
+  floor (close p) r b s (ahead e f) = let q = floor p r b s outside in omega (arith, q)
+  floor (more m p) zero b s (level e f) = absurd (omega arith)
+  floor (more m p) (suc r) b s (level e f) = floor p r b (over-uses s (carried-over 2 refl m)) (level (omega arith) f)
+  floor (more m p) zero b s (ahead e f) =
+      let q = floor p room h (over-opens s (carried-over 2 refl m)) (level (omega arith) f) in
+      omega (arith, q)
+  floor (more m p) (suc r) b s (ahead e f) = floor p r b (over-uses s (carried-over 2 refl m)) (ahead (omega arith) f)
+  floor (bridges m p) zero b s (level e f) = absurd (omega arith)
+  floor (bridges m p) (suc r) zero s (level e f) = absurd (omega arith)
+  floor (bridges m p) (suc r) (suc b) s (level e f) =
+      floor p r b (under (suc r) (suc b) s (carried-under 3 refl m)) (level (omega arith) (omega arith))
+  floor (bridges m p) r b s (ahead e f) =
+      floor p _ _ (under r b s (carried-under 3 refl m)) (ahead (omega arith) (omega arith))
+
+  -- an under slot is a bridge if the window goes on behind it, and uncovered if it closes
+  under-slot : {x : ℤ} {xs : List ℤ} {ms : List ℕ} (r b : ℕ) → x ≤ℤ k → Marks (on true (left r b) (pred b)) xs ms →
+      (m : ℕ) × Marks (on true r b) (x ∷ xs) (m ∷ ms) × (windows (m ∷ ms) ≡ windows ms)
+  unfolding goesWith windows count
+  under-slot zero b l (close p) = (0, close (skip (carry-under 0 refl l) p), refl)
+  under-slot (suc r) zero l (close p) = (0, close (skip (carry-under 0 refl l) p), refl)
+  under-slot (suc r) (suc b) l (close p) = (0, close (skip (carry-under 0 refl l) p), refl)
+  under-slot (suc r) (suc b) l (more m p) = (3, bridges (carry-under 3 refl l) (more m p), refl)
+  under-slot (suc r) (suc b) l (bridges m p) = (3, bridges (carry-under 3 refl l) (bridges m p), refl)
+
+  -- a plan from where the watch stands, with as many windows
+  record Met (n r b : ℕ) (w : Watch) (xs : List ℤ) : Type 0 where
+    marks : List ℕ
+    plan : Marks (on true r b) xs marks
+    same : n + windows marks ≡ led w xs .windows
+
+  -- wherever a watch stands, there is one
+  abbrev Meets : List ℤ → Type 0
+  Meets xs = (n r b : ℕ) (w : Watch) → Stands n r b w → Met n r b w xs
+
+  -- so it is with one slot more
+  one-more : {x : ℤ} {xs : List ℤ} → Meets xs → (k <ℤ x) ⊎ (x ≤ℤ k) → Meets (x ∷ xs)
+  unfolding led goesWith windows count
+  one-more f (inl l) n zero b w s =
+      let g = f _ _ _ _ (over-opens s l) in
+      record { marks = 1 ∷ g .marks; plan = close (opens (carry-over 1 refl l) (g .plan)); same = omega (arith, g .same) }
+  one-more f (inl l) n (suc r) b w s =
+      let g = f _ _ _ _ (over-uses s l) in
+      record { marks = 2 ∷ g .marks; plan = more (carry-over 2 refl l) (g .plan); same = g .same }
+  one-more f (inr l) n r b w s =
+      let g = f _ _ _ _ (under r b s l) in
+      let (m, p, e) = under-slot r b l (g .plan) in
+      record { marks = m ∷ g .marks; plan = p; same = omega (arith, e, g .same) }
+
+  met : (xs : List ℤ) → Meets xs
+  unfolding led windows count
+  met [] n r b w stands = record { marks = []; plan = close done; same = omega arith }
+  met (x ∷ xs) n r b w s = one-more (met xs) (side k x) n r b w s
+
+  -- a window without a slot left has to close
+  closed : {b : ℕ} {xs : List ℤ} {ms : List ℕ} → Marks (on true 0 b) xs ms → Marks (out 0) xs ms
+  closed (close p) = p
+
+pub least : Least
+least k zero h loads e = absurd (omega (arith, settled 0 h e .0))
+least k (suc room) h loads e =
+    let f = met k room h loads 0 0 0 _ (fresh k room h) in
+    record {
+      met = (f .marks, plan→legal (carries k) room h loads (f .marks) (closed k room h (f .plan)), omega (arith, f .same));
+      least = λ ms l.
+          let q = floor k room h (legal→plan (carries k) room h loads ms l) 0 0 (fresh k room h) outside in
+          omega (arith, q);
+    }
+
+pub case-l : CaseL
+unfolding led after afterOver afterUnder over
+case-l = record { one-bridge = refl; two-bridges = refl }

@@ -1,0 +1,9 @@
+pub mod Counting
+pub mod Leading
+pub mod Origins
+pub mod Reaching
+pub mod Running
+pub mod RunningOn
+pub mod Starting
+pub mod Stepping
+pub mod Testing

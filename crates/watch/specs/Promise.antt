@@ -1,0 +1,107 @@
+-- What a start, a step and a run give (document 01, "Watch" and "Where each refusal is checked"), and what the count is.
+use Prim.Native.Nat.{ℕ, suc, _-_, _<_, min}
+use mathlib.Core.Bool.{Bool, true, cond}
+use mathlib.Core.List.{List, [], _∷_, _++_}
+use mathlib.Core.Logic.{_↔_}
+use mathlib.Core.Option.{Option, none, some}
+use mathlib.Core.Path.{_≡_}
+use lib.Dec.{ltb}
+use lib.IntN.{ℤ, pos}
+use lib.ListN.{length, take}
+use Rattle.judge.specs.Refusals.{number as judge·number}
+use Rattle.judge.specs.Rule.{legal, windows, LeastOver}
+use Rattle.watch.specs.States.{startRefusal, begun, led, most, Leads, Reached}
+use Rattle.watch.specs.declared.run.Ended.{Ended}
+use Rattle.watch.specs.declared.run.Ended.the-variants.{All, Stopped}
+use Rattle.watch.specs.declared.start.Started.{Started}
+use Rattle.watch.specs.declared.start.Started.the-variants.{Watching, Refused as start·Refused}
+use Rattle.watch.specs.declared.start.Watch.{Watch}
+use Rattle.watch.specs.declared.step.Answer.{Answer}
+use Rattle.watch.specs.declared.step.Answer.the-variants.{Taken, Refused}
+use Rattle.watch.specs.declared.step.Refusal.{Refusal}
+use Rattle.watch.specs.declared.step.Refusal.the-variants.{Unreached, Full}
+use Rattle.watch.specs.declared.step.Stepped.{Stepped}
+
+-- a start gives a state, or a refusal's number and no state
+pub data Start : Type 0 where
+  watches : Watch → Start
+  refuses : (number : ℕ) → Start
+
+abbrev pub started : Started → Start
+started (Watching w) = watches w
+started (start·Refused r) = refuses (judge·number r)
+
+abbrev pub unless : Option ℕ → Watch → Start
+unless none w = watches w
+unless (some n) w = refuses n
+
+unfoldable pub starting : (k : ℤ) (len h : ℕ) → Start
+starting k len h = unless (startRefusal len h) (begun k len h)
+
+-- document 01's number of each refusal of a step
+abbrev pub number : Refusal → ℕ
+number Unreached = 32
+number Full = 33
+
+-- a step's answer: the load is taken, with whether it opened a window, or a refusal's number
+pub data Step : Type 0 where
+  takes : (opened : Bool) → Step
+  refuses-with : (number : ℕ) → Step
+
+abbrev pub told : Answer → Step
+told (Taken opened) = takes opened
+told (Refused r) = refuses-with (number r)
+
+-- a window was opened between two states
+abbrev pub opened : (before behind : Watch) → Bool
+opened v w = ltb (v .windows) (w .windows)
+
+-- What a step gives, for every state and every load.
+pub record Steps (w : Watch) (load : ℤ) (r : Stepped) : Type 0 where
+  -- 32: a state that no accepted start and steps lead to
+  pub unreached : (told (r .answer) ≡ refuses-with 32) ↔ (Reached w → ⊥)
+  -- 33: 1,000,000 slots already taken
+  pub full : (told (r .answer) ≡ refuses-with 33) ↔ (Reached w × (w .taken ≡ most))
+  -- a watch refused at a step keeps its state
+  pub kept : (n : ℕ) → told (r .answer) ≡ refuses-with n → r .watch ≡ w
+  -- otherwise the loads that led to the state, and this one behind them, lead to what comes back, and the answer says whether
+  -- this one opened a window
+  pub taken : (k : ℤ) (len h : ℕ) (loads : List ℤ) → Leads k len h loads w → length loads < most →
+      Leads k len h (loads ++ load ∷ []) (r .watch) × (told (r .answer) ≡ takes (opened w (r .watch)))
+
+-- the number of the refusal that ended a run, if one did
+abbrev pub refusal : Ended → Option ℕ
+refusal All = none
+refusal (Stopped r) = some (number r)
+
+-- A run steps load by load, up to the first that is refused: the state then, how many loads were taken, and the refusal.
+pub data Runs : (before : Watch) (loads : List ℤ) (behind : Watch) (taken : ℕ) (refusal : Option ℕ) → Type 0 where
+  done : {w : Watch} → Runs w [] w 0 none
+  stops : {w : Watch} {x : ℤ} {xs : List ℤ} {n : ℕ} (r : Stepped) → Steps w x r → told (r .answer) ≡ refuses-with n →
+      Runs w (x ∷ xs) (r .watch) 0 (some n)
+  goes-on : {w v : Watch} {x : ℤ} {xs : List ℤ} {b : Bool} {n : ℕ} {o : Option ℕ} (r : Stepped) → Steps w x r →
+      told (r .answer) ≡ takes b → Runs (r .watch) xs v n o → Runs w (x ∷ xs) v (suc n) o
+
+-- From a state that loads lead to, a run takes as many loads as the limit leaves room for. These, behind those, lead to the state
+-- that comes back, and it is refused, with 33, exactly when loads are left over.
+pub record RunsOn (k : ℤ) (len h : ℕ) (loads xs : List ℤ) (v : Watch) (n : ℕ) (o : Option ℕ) : Type 0 where
+  pub taken : n ≡ min (length xs) (most - length loads)
+  pub state : Leads k len h (loads ++ take n xs) v
+  pub refused : o ≡ cond (ltb n (length xs)) (some 33) none
+
+abbrev pub RunsFrom : Type 0
+RunsFrom = (k : ℤ) (len h : ℕ) (loads xs : List ℤ) (w v : Watch) (n : ℕ) (o : Option ℕ) → Leads k len h loads w → Runs w xs v n o →
+    RunsOn k len h loads xs v n o
+
+-- After an accepted start and any loads the window count is the least number of windows that covers them, over all legal marks.
+abbrev pub Least : Type 0
+Least = (k : ℤ) (len h : ℕ) (loads : List ℤ) → startRefusal len h ≡ none →
+    LeastOver (λ ms. legal k len h loads ms ≡ true) windows (led (begun k len h) loads .windows)
+
+-- Case L: len 4, loads 1, 0, 0, 1
+abbrev pub caseL : (h : ℕ) → Watch
+caseL h = led (begun (pos 0) 4 h) (pos 1 ∷ pos 0 ∷ pos 0 ∷ pos 1 ∷ [])
+
+pub record CaseL : Type 0 where
+  pub one-bridge : caseL 1 .windows ≡ 2
+  pub two-bridges : caseL 2 .windows ≡ 1

@@ -1,0 +1,77 @@
+-- The states of a watch (document 01, "Watch"), and which of them loads lead to.
+use Prim.Native.Nat.{ℕ, _+_, _-_, _≤_}
+use mathlib.Core.Bool.{cond}
+use mathlib.Core.List.{List, [], _∷_}
+use mathlib.Core.Option.{Option, none}
+use mathlib.Core.Path.{_≡_}
+use lib.Dec.{eqb}
+use lib.IntN.{ℤ}
+use lib.ListN.{length}
+use mir.Syntax.{w32}
+use mir.Val.{SFits}
+use Rattle.judge.specs.Refusals.{row, first, limit, wrongLength, wrongBridges}
+use Rattle.judge.specs.Rule.{over}
+use Rattle.watch.specs.declared.start.Watch.{Watch}
+
+-- "Where each refusal is checked", the watch's rows of the settings: 23 with the limit in place of n, and 24
+unfoldable pub startRefusal : (len h : ℕ) → Option ℕ
+startRefusal len h = first (row 23 (wrongLength len limit) ∷ row 24 (wrongBridges h len) ∷ [])
+
+-- an accepted start: no slot taken, no window opened, none alive
+abbrev pub begun : (k : ℤ) (len h : ℕ) → Watch
+begun k len h = record { k = k; len = len; h = h; taken = 0; windows = 0; room = 0; spare = 0 }
+
+-- one slot more, with this many windows opened so far and this much left to the living one, which lives while it has slots left
+abbrev pub moved : Watch → (windows room spare : ℕ) → Watch
+moved w windows room spare =
+    record {
+      k = w .k;
+      len = w .len;
+      h = w .h;
+      taken = w .taken + 1;
+      windows = windows;
+      room = room;
+      spare = cond (eqb room 0) 0 spare;
+    }
+
+-- an over load uses a slot of the living window, or opens one
+unfoldable pub afterOver : Watch → Watch
+afterOver w =
+    cond (eqb (w .room) 0)
+    (moved w (w .windows + 1) (w .len - 1) (w .h))
+    (moved w (w .windows) (w .room - 1) (w .spare))
+
+-- an under load uses a slot and a bridge of it, or ends it
+unfoldable pub afterUnder : Watch → Watch
+afterUnder w =
+    cond (eqb (w .spare) 0)
+    (moved w (w .windows) 0 0)
+    (moved w (w .windows) (w .room - 1) (w .spare - 1))
+
+unfoldable pub after : Watch → (load : ℤ) → Watch
+after w load = cond (over (w .k) load) (afterOver w) (afterUnder w)
+
+-- the state behind these loads
+unfoldable pub led : Watch → (loads : List ℤ) → Watch
+led w [] = w
+led w (x ∷ xs) = led (after w x) xs
+
+-- "It takes 1,000,000 slots"
+abbrev pub most : ℕ
+most = 1000000
+
+-- loads are signed 32-bit numbers ("From load ranges to windows")
+abbrev pub Loads : List ℤ → Type 0
+Loads [] = Unit
+Loads (x ∷ xs) = SFits w32 x × Loads xs
+
+-- an accepted start and these loads, at most as many as a watch takes, lead to the state w
+pub record Leads (k : ℤ) (len h : ℕ) (loads : List ℤ) (w : Watch) : Type 0 where
+  pub accepted : startRefusal len h ≡ none
+  pub fit : Loads loads
+  pub few : length loads ≤ most
+  pub state : led (begun k len h) loads ≡ w
+
+-- some accepted start and some loads lead to the state w
+abbrev pub Reached : Watch → Type 0
+Reached w = (k : ℤ) × (len : ℕ) × (h : ℕ) × (loads : List ℤ) × Leads k len h loads w

@@ -1,0 +1,125 @@
+// One load more.
+ghost use mathlib.Core.Path.{_≡_};
+ghost use Prim.Native.Nat.{_<_};
+ghost use Rattle.judge.specs.Rule.{over};
+ghost use Rattle.watch.specs.States.{most, moved as States·moved, afterOver, afterUnder, after as States·after};
+ghost use Rattle.watch.specs.Tested.{Ready};
+ghost use Rattle.watch.specs.declared.step.Answer.the-variants.{Refused};
+ghost use Rattle.watch.specs.Promise.{number as Promise·number, Steps};
+use crate::reached::MOST;
+use crate::start::Watch;
+
+// Why a step is refused: 32, then 33.
+pub enum Refusal {
+    Unreached,
+    Full,
+}
+
+impl Refusal {
+    // Document 01's number.
+    pub fn number(self) -> u16
+        ensures { λ r. ⌜ r ≡ Promise·number self ⌝ }
+    {
+        match self {
+            Refusal::Unreached => 32,
+            Refusal::Full => 33,
+        }
+    }
+}
+
+// The load is taken, and opened a window or not; or the step is refused.
+pub enum Answer {
+    Taken { opened: bool },
+    Refused(Refusal),
+}
+
+// The state that replaces the one given, and the answer.
+pub struct Stepped {
+    pub watch: Watch,
+    pub answer: Answer,
+}
+
+impl Watch {
+    // A refused step hands the state back as it is.
+    pub fn step(self, load: i32) -> Stepped
+        ensures { λ r. ⌜ Steps self load r ⌝ }
+    {
+        if !self.reached() {
+            return refused(self, Refusal::Unreached);
+        }
+        if self.taken == MOST {
+            return refused(self, Refusal::Full);
+        }
+        let watch = self.after(load);
+        Stepped {
+            watch,
+            answer: Answer::Taken {
+                opened: watch.windows > self.windows,
+            },
+        }
+    }
+
+    // The state behind a load, by the load's side.
+    fn after(self, load: i32) -> Watch
+        requires { ⌜ Ready self ⌝ }
+        ensures { λ r. ⌜ r ≡ States·after self load ⌝ }
+    {
+        if is_over(self.k, load) {
+            return self.after_over();
+        }
+        self.after_under()
+    }
+
+    // An over load uses a slot of the living window, or opens one.
+    fn after_over(self) -> Watch
+        requires { ⌜ Ready self ⌝ }
+        ensures { λ r. ⌜ r ≡ afterOver self ⌝ }
+    {
+        if self.room == 0 {
+            return self.moved(self.windows + 1, self.len - 1, self.h);
+        }
+        self.moved(self.windows, self.room - 1, self.spare)
+    }
+
+    // An under load uses a slot and a bridge of it, or ends it.
+    fn after_under(self) -> Watch
+        requires { ⌜ Ready self ⌝ }
+        ensures { λ r. ⌜ r ≡ afterUnder self ⌝ }
+    {
+        if self.spare == 0 {
+            return self.moved(self.windows, 0, 0);
+        }
+        self.moved(self.windows, self.room - 1, self.spare - 1)
+    }
+
+    // One slot more, with this many windows, and this much left to the living one.
+    fn moved(self, windows: u32, room: u16, spare: u16) -> Watch
+        requires { ⌜ self .taken < most ⌝ }
+        ensures { λ r. ⌜ r ≡ States·moved self windows room spare ⌝ }
+    {
+        Watch {
+            k: self.k,
+            len: self.len,
+            h: self.h,
+            taken: self.taken + 1,
+            windows,
+            room,
+            spare: if room == 0 { 0 } else { spare },
+        }
+    }
+}
+
+pub(crate) fn is_over(k: i32, load: i32) -> bool
+    ensures { λ r. ⌜ r ≡ over k load ⌝ }
+{
+    load > k
+}
+
+fn refused(watch: Watch, refusal: Refusal) -> Stepped
+    ensures { λ r. ⌜ (r .watch ≡ watch) × (r .answer ≡ Refused refusal) ⌝ }
+{
+    Stepped {
+        watch,
+        answer: Answer::Refused(refusal),
+    }
+}
