@@ -1,4 +1,4 @@
--- What a caller can tell from the numbers of the filter's answer.
+-- What a caller can tell from the numbers of the filter's answer and of the judge's.
 use Prim.Native.Nat.{ℕ, _≤_}
 use native.Mathlib.Omega.{arith}
 use mathlib.Core.List.{List, [], _∷_}
@@ -6,12 +6,14 @@ use mathlib.Core.Option.{Option, none, some, Option·some-injective, Option·som
 use mathlib.Core.Path.{_≡_, refl, sym, ap, _∙_, subst}
 use lib.IntN.{ℤ}
 use lib.ListN.{length}
-use Rattle.judge.proofs.Rows.{from-21}
-use Rattle.judge.specs.Refusals.{refusal}
+use Rattle.settings.proofs.Rows.{from-21}
+use Rattle.settings.specs.Refusals.{refusal}
+use Rattle.settings.specs.declared.Settings.{Settings}
+use Rattle.judge.proofs.Allowing.{refusing}
 use Rattle.requests.proofs.Outcomes.{refused-so, says-none, planned-where}
 use Rattle.requests.specs.Promise.{refuses, Outcome}
 use Rattle.requests.specs.Request.{Request, slots, ranges, Refused, crossed, behind, refused}
-use Rattle.c_api.specs.Numbers.{answerOf, Answered, Means}
+use Rattle.c_api.specs.Numbers.{answerOf, verdictOf, Answered, Means, VerdictMeans}
 use Rattle.c_api.specs.declared.AnswerNumbers.{AnswerNumbers}
 
 -- a refusal's number is none of the other codes
@@ -37,4 +39,12 @@ means {r} {los = los} {his} {ms} a =
           (is, rw is (numbered-from-21 r f e));
       none = λ w n. a .is ∙ ap answerOf (says-none r o (a .kept) w n);
       plan = λ w ms p. rw (a .is, planned-where r o (a .kept) w ms p .answer) refl;
+    }
+
+pub verdict-means : (s : Settings) (loads : List ℤ) (marks : List ℕ) → VerdictMeans s loads marks
+verdict-means s loads marks =
+    record {
+      refusal = λ n e. (ap (λ j. verdictOf j .code) e, from-21 _ _ s (refusing s loads marks n .0 e));
+      yes = λ w c e. ap verdictOf e;
+      no = λ w c e. ap (λ j. verdictOf j .code) e;
     }

@@ -6,10 +6,10 @@ use mathlib.Core.Logic.{_↔_}
 use mathlib.Core.Option.{Option, none, some, Option·some-ne-none}
 use mathlib.Core.Path.{_≡_, refl, sym, ap, _∙_}
 use lib.Dec.{eqb}
-use Rattle.judge.proofs.Rows.{number-in}
+use Rattle.settings.proofs.Rows.{number-in}
 use Rattle.watch.specs.Promise.{unless, starting, told}
 use Rattle.watch.specs.States.{startRefusal, begun}
-use Rattle.watch.specs.declared.start.Watch.{Watch}
+use Rattle.watch.specs.declared.Watch.{Watch}
 use Rattle.watch.specs.declared.step.Answer.{Answer}
 use Rattle.watch.specs.declared.step.Answer.the-variants.{Taken, Refused}
 use Rattle.watch.specs.declared.step.Refusal.the-variants.{Unreached, Full}

@@ -5,8 +5,8 @@ use mathlib.Core.List.{List}
 use mathlib.Core.Option.{some}
 use mathlib.Core.Path.{_≡_}
 use lib.IntN.{ℤ}
-use Rattle.judge.specs.Judgment.{Judgment, says, refuses as judge-refuses}
-use Rattle.judge.specs.declared.settings.Settings.{Settings}
+use Rattle.judge.specs.Judgment.{Judgment, says, refuses as judge-refuses, judgment}
+use Rattle.settings.specs.declared.Settings.{Settings}
 use Rattle.requests.specs.Promise.{Answer, refuses, no-plan, planned, NoPlan, Keeps}
 use Rattle.requests.specs.Request.{Request, Refused, numbered, at-slot, refused, WellFormed, PlanOf}
 use Rattle.c_api.specs.declared.AnswerNumbers.{AnswerNumbers}
@@ -53,3 +53,10 @@ pub record Means (r : Request) (numbers : AnswerNumbers) : Type 0 where
   pub refusal : (f : Refused) → refused r ≡ some f → (numbers ≡ answerOf (refuses f)) × (21 ≤ numbers .code)
   pub none : WellFormed r → NoPlan r → numbers ≡ answerOf no-plan
   pub plan : WellFormed r → (ms : List ℕ) → PlanOf r ms → numbers .code ≡ 0
+
+-- What the judge says is in its numbers too.
+pub record VerdictMeans (s : Settings) (loads : List ℤ) (marks : List ℕ) : Type 0 where
+  pub refusal : (n : ℕ) → judgment s loads marks ≡ judge-refuses n → (verdictOf (judgment s loads marks) .code ≡ n) × (21 ≤ n)
+  pub yes : (w c : ℕ) → judgment s loads marks ≡ says true w c →
+      verdictOf (judgment s loads marks) ≡ record { code = 0; windows = w; covered = c }
+  pub no : (w c : ℕ) → judgment s loads marks ≡ says false w c → verdictOf (judgment s loads marks) .code ≡ 1

@@ -7,7 +7,7 @@ use mathlib.Core.Path.{_≡_}
 use lib.IntN.{ℤ, pos}
 use Rattle.watch.specs.Promise.{Start, watches, refuses, starting, Step, takes, refuses-with, told, Steps}
 use Rattle.watch.specs.States.{startRefusal}
-use Rattle.watch.specs.declared.start.Watch.{Watch}
+use Rattle.watch.specs.declared.Watch.{Watch}
 use Rattle.watch.specs.declared.step.Answer.{Answer}
 use Rattle.watch.specs.declared.step.Stepped.{Stepped}
 use Rattle.c_api.specs.declared.watches.StartNumbers.{StartNumbers}

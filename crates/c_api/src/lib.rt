@@ -2,14 +2,15 @@
 // them.
 ghost use mathlib.Core.Path.{_≡_};
 ghost use Rattle.judge.specs.Judgment.{judgment, told as Judgment·told};
-ghost use Rattle.filter.specs.Answers.{asked, told as Answers·told};
+ghost use Rattle.filter.specs.Answers.{told as Answers·told};
+ghost use Rattle.requests.specs.Request.{asked};
 ghost use Rattle.c_api.specs.Numbers.{Answered, answerOf, verdictOf, settingsOf, withoutCounts};
 use filter::Answer;
 use filter::filter;
-use judge::CountRange;
-use judge::Settings;
 use judge::Verdict;
 use judge::judge;
+use settings::CountRange;
+use settings::Settings;
 
 mod watches;
 

@@ -1,19 +1,14 @@
 -- A slice whose first places are filled, one after the other.
-use Prim.Native.Nat.{ℕ, zero, suc, _+_, _<_}
+use Prim.Native.Nat.{ℕ, suc, _+_, _<_}
 use native.Mathlib.Numerals.{add-one}
-use native.Mathlib.Omega.{arith}
-use mathlib.Core.List.{List, [], _∷_, _++_}
+use mathlib.Core.List.{List, _++_}
 use mathlib.Core.Path.{_≡_, refl, sym, _∙_}
 use lib.IntN.{ℤ, pos}
-use lib.ListN.{length, drop, getD, set, length-append, length-set}
+use lib.ListN.{length, drop, getD, set, length-set}
 use lib.Seq.{append-snoc, set-at}
-use Rattle.judge.proofs.Rules.{uncons}
-use Rattle.card.specs.Reading.{each}
-
-pub length-each : {A : Type 0} (n : ℕ) (f : ℕ → A) → length (each n f) ≡ n
-unfolding each
-length-each zero f = refl
-length-each (suc n) f = rw (length-append (each n f) (f n ∷ []), length-each n f) (omega arith)
+use Rattle.facts.proofs.Rules.{uncons}
+use Rattle.form1.proofs.Each.{length-each}
+use Rattle.form1.specs.Form1.{each}
 
 -- the places before i are filled, the others are as they were
 pub record Filled (f : ℕ → ℤ) (before : List ℤ) (i : ℕ) (after : List ℤ) : Type 0 where

@@ -1,9 +1,4 @@
 pub mod Agreeing
-mod Answering
-pub mod Drawing
+pub mod Answering
 mod Filling
-mod Numbers
-pub mod Passing
-pub mod Redrawing
 pub mod Told
-mod Viewing

@@ -1,3 +1,1 @@
-pub mod Form1
-pub mod Layout
 pub mod Reading

@@ -1,48 +1,20 @@
 -- What the reader and the look-up give for a file (document 01, "Form 1, on the card").
-use Prim.Native.Nat.{ℕ, zero, suc, _<_}
+use Prim.Native.Nat.{ℕ, _<_}
 use mathlib.Core.Bool.{Bool, _||_}
-use mathlib.Core.List.{List, [], _∷_, _++_}
-use mathlib.Core.Option.{Option, none, some}
+use mathlib.Core.List.{List, _++_}
 use mathlib.Core.Path.{_≡_}
 use lib.Dec.{leb, ltb}
 use lib.IntN.{ℤ, pos}
 use lib.ListN.{length, getD, drop}
-use Rattle.judge.specs.Ranges.{Range}
-use Rattle.judge.specs.Refusals.{row}
-use Rattle.judge.specs.declared.settings.Settings.{Settings}
-use Rattle.card.specs.Form1.{slots, settings, rangeOf, refusal}
+use Rattle.rule.specs.Ranges.{Range}
+use Rattle.settings.specs.Refusals.{row}
+use Rattle.settings.specs.declared.Settings.{Settings}
+use Rattle.form1.specs.Form1.{slots, settings, rangeOf, each, refusal}
+use Rattle.form1.specs.Opening.{number, Answer, refuses, gives, answer}
 use Rattle.card.specs.declared.Reading.{Reading}
 use Rattle.card.specs.declared.Reading.the-variants.{Refused as Reading·Refused, Taken}
-use Rattle.card.specs.declared.check.Checked.{Checked}
-use Rattle.card.specs.declared.check.Checked.the-variants.{Passed, Refused as Checked·Refused}
-use Rattle.card.specs.declared.check.Refusal.{Refusal}
-use Rattle.card.specs.declared.check.Refusal.the-variants.{Size, End, Form, Slots, Distance, Records, Lent, Slot}
-use Rattle.card.specs.declared.lookup.Found.{Found}
-use Rattle.card.specs.declared.lookup.Found.the-variants.{Refused as Found·Refused, Record}
-
--- document 01's number of each refusal
-abbrev pub number : Refusal → ℕ
-number Size = 11
-number End = 12
-number Form = 13
-number Slots = 14
-number Distance = 15
-number Records = 16
-number Lent = 17
-number Slot = 19
-
-abbrev pub checked : Checked → Option ℕ
-checked Passed = none
-checked (Checked·Refused r) = some (number r)
-
--- a refusal by its number, or what was asked
-pub data Answer (A : Type 0) : Type 0 where
-  refuses : (number : ℕ) → Answer A
-  gives : A → Answer A
-
-abbrev pub answer : {A : Type 0} → Option ℕ → A → Answer A
-answer (some number) asked = refuses number
-answer none asked = gives asked
+use Rattle.card.specs.declared.Found.{Found}
+use Rattle.card.specs.declared.Found.the-variants.{Refused as Found·Refused, Record}
 
 -- The reader.
 
@@ -67,11 +39,6 @@ pub record Outcome : Type 0 where
 
 abbrev pub handed : Reading → (lowest highest : List ℤ) → Outcome
 handed r los his = record { answer = told r; lowest = los; highest = his }
-
--- what the slots from 0 up to n give, in their order
-unfoldable pub each : {A : Type 0} (n : ℕ) → (ℕ → A) → List A
-each zero f = []
-each (suc n) f = each n f ++ (f n ∷ [])
 
 -- the first n places hold the records, no later place is altered; on a refusal none is
 abbrev pub filled : Answer Header → (ℕ → ℤ) → List ℤ → List ℤ

@@ -1,32 +1,27 @@
-// Form 1, the file on the card: the reader, the look-up by slot number, and the view over a file's bytes. The format is
-// specs/Form1.antt; what comes back is specs/Reading.antt.
+// Form 1 files: the reader, and the look-up by slot number. What comes back is specs/Reading.antt.
 ghost use mathlib.Core.Path.{_≡_};
 ghost use Rattle.card.specs.Reading.{handed, reading};
-use crate::check::Checked;
-use crate::check::check;
-use crate::fields::settings;
-use crate::fields::slots;
 use crate::records::fill;
-use judge::Settings;
+use form1::Opened;
+use form1::Refusal;
+use form1::open;
+use settings::Settings;
 
-mod bytes;
-mod check;
-mod fields;
 mod lookup;
 mod records;
-mod view;
 
-pub use check::Refusal;
-pub use lookup::Found;
 pub use lookup::look_up;
-pub use view::View;
-pub use view::view_of;
-pub use view::viewed;
 
 // What the reader answers besides the loads.
 pub enum Reading {
     Refused(Refusal),
     Taken { settings: Settings, n: usize },
+}
+
+// What a look-up answers.
+pub enum Found {
+    Refused(Refusal),
+    Record { lowest: i32, highest: i32 },
 }
 
 // Gives the first refusal that applies, or the settings and n, as the file has them. Only in the latter case it writes: the
@@ -35,20 +30,19 @@ pub fn read(file: &[u8], lowest: &mut [i32], highest: &mut [i32]) -> Reading
     ensures { λ r. ⌜ handed r (now (lowest .exit)) (now (highest .exit))
         ≡ reading (now (file .entry)) (now (lowest .entry)) (now (highest .entry)) ⌝ }
 {
-    let checked = check(file);
-    if let Checked::Refused(refusal) = checked {
-        return Reading::Refused(refusal);
-    }
-    let n = slots(file);
-    if lowest.len() < n {
-        return Reading::Refused(Refusal::Lent);
-    }
-    if highest.len() < n {
-        return Reading::Refused(Refusal::Lent);
-    }
-    fill(file, n, lowest, highest);
-    Reading::Taken {
-        settings: settings(file),
-        n,
+    match open(file) {
+        Opened::Refused(refusal) => Reading::Refused(refusal),
+        Opened::Whole(contents) => {
+            let n = contents.n;
+            if lowest.len() < n {
+                return Reading::Refused(Refusal::Lent);
+            }
+            if highest.len() < n {
+                return Reading::Refused(Refusal::Lent);
+            }
+            fill(file, contents.start, n, lowest, highest);
+            let settings = contents.settings;
+            Reading::Taken { settings, n }
+        }
     }
 }

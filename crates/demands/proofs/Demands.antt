@@ -5,16 +5,20 @@ use mathlib.Core.Bool.{true}
 use mathlib.Core.List.{List, [], _∷_}
 use mathlib.Core.Logic.{_↔_}
 use mathlib.Core.Option.{none}
-use mathlib.Core.Path.{_≡_, _∙_, subst}
+use mathlib.Core.Path.{_≡_, refl, _∙_, subst}
 use lib.IntN.{ℤ}
 use lib.ListN.{length}
+use Rattle.card.proofs.Answering.{reader-refuses, look-up-refuses, refused-unaltered}
+use Rattle.c_api.proofs.Meaning.{means, verdict-means}
+use Rattle.c_api.proofs.WatchMeaning.{start-means, step-means}
+use Rattle.chooser.proofs.Choosing.{plan-or-none, none-where-refused}
 use Rattle.judge.proofs.Allowing.{Allowed, allowing, saying, said, refusing}
-use Rattle.judge.proofs.Onward.{as-long}
-use Rattle.judge.proofs.Passing.{passing}
+use Rattle.rule.proofs.Onward.{as-long}
+use Rattle.settings.proofs.Passing.{passing}
 use Rattle.judge.specs.Judgment.{says, judgment}
-use Rattle.judge.specs.Refusals.{refusal}
-use Rattle.judge.specs.Rule.{carries, windows, covered}
-use Rattle.judge.specs.declared.settings.Settings.{Settings}
+use Rattle.settings.specs.Refusals.{refusal}
+use Rattle.rule.specs.Rule.{carries, windows, covered}
+use Rattle.settings.specs.declared.Settings.{Settings}
 use Rattle.published.proofs.Corners.{recount}
 use Rattle.published.proofs.Theorems.{theorems}
 use Rattle.published.specs.Published.{Run, size, sum, _⊆_, WeightedSpringyFocus, Obeys, Corners, runs}
@@ -22,21 +26,61 @@ use Rattle.requests.proofs.Alike.{alike}
 use Rattle.requests.proofs.Demand3.{demand3}
 use Rattle.requests.proofs.Outcomes.{refused-so}
 use Rattle.requests.specs.Promise.{Answers}
+use Rattle.watch.proofs.Starting
+use Rattle.watch.proofs.Stepping.{two-numbers}
 use Rattle.requests.specs.Request.{Request}
 use Rattle.demands.proofs.Measure.{delivers, delivers-covered}
 use Rattle.demands.proofs.Watching.{counting}
-use Rattle.demands.specs.Demands.{Demand1, Demand2, Demands}
+use Rattle.demands.specs.Demands.{Demand1, Demand2, Contracts, Demands}
+use Rattle.filter.proofs.filter as Filter
+use Rattle.judge.proofs.judge as Judge
+use Rattle.chooser.proofs.choose as Choose
+use Rattle.watch.proofs.Watch.start as Start
+use Rattle.watch.proofs.Watch.step as Step
+use Rattle.watch.proofs.Watch.run as Run
+use Rattle.card.proofs.read as Read
+use Rattle.card.proofs.look_up as LookUp
+use Rattle.view.proofs.view_of as ViewOf
+use Rattle.view.proofs.View.look_up as ViewLookUp
+use Rattle.view.proofs.viewed as Viewed
+use Rattle.listing.proofs.answered as ListingAnswered
+use Rattle.listing.proofs.refused as ListingRefused
+use Rattle.c_api.proofs.icecoppice_filter as CFilter
+use Rattle.c_api.proofs.icecoppice_judge as CJudge
+use Rattle.c_api.proofs.icecoppice_watch_start as CStart
+use Rattle.c_api.proofs.icecoppice_watch_step as CStep
+use Rattle.rule.proofs.over as Over
+use Rattle.settings.proofs.check as Check
+use Rattle.checks.proofs.check_request as CheckRequest
+use Rattle.least.proofs.low as Low
+use Rattle.least.proofs.rows as Rows
+use Rattle.form1.proofs.open as Open
+use Rattle.form1.proofs.range_at as RangeAt
+use Rattle.settings.proofs.Refusal.number as Number
+use Rattle.watch.proofs.step.Refusal.number as StepNumber
+use Rattle.form1.proofs.Refusal.number as CardNumber
 
 demand1 : Demand1
 demand1 =
     record {
-      judge = refusing;
       filter = refused-so;
       decided = alike;
       unaltered = λ r o k. (
         (λ e. subst (λ a. Answers r a o) e k .2),
         (λ f e. subst (λ a. Answers r a o) e k .1),
       );
+      judge = refusing;
+      chooser = plan-or-none;
+      chooser-refused = none-where-refused;
+      start = Starting.refusing;
+      step = λ w load r s n e. (two-numbers (r .answer) n e, s .kept n e);
+      reader = reader-refuses;
+      reader-unaltered = refused-unaltered;
+      look-up = look-up-refuses;
+      filter-for-c = λ r numbers los his ms a. means a;
+      judge-for-c = verdict-means;
+      start-for-c = start-means;
+      step-for-c = step-means;
     }
 
 module _ (s : Settings) (X : List ℤ) where
@@ -95,5 +139,37 @@ demand2 =
       watch = counting;
     }
 
+contracts : Contracts
+contracts =
+    record {
+      filter = record { meets = Filter.Met.met; total = λ M 𝓤 H A mem run κs a. (tt, λ g. refl) };
+      judge = record { meets = Judge.Met.met; total = λ M 𝓤 H A mem run κs a. (tt, λ g. refl) };
+      choose = record { meets = Choose.Met.met; total = λ M 𝓤 H A mem run κs a. (tt, λ g. refl) };
+      start = record { meets = Start.Met.met; total = λ M 𝓤 H A mem run κs a. (tt, λ g. refl) };
+      step = record { meets = Step.Met.met; total = λ M 𝓤 H A mem run κs a. (tt, λ g. refl) };
+      run = record { meets = Run.Met.met; total = λ M 𝓤 H A mem run κs a. (tt, λ g. refl) };
+      read = record { meets = Read.Met.met; total = λ M 𝓤 H A mem run κs a. (tt, λ g. refl) };
+      look-up = record { meets = LookUp.Met.met; total = λ M 𝓤 H A mem run κs a. (tt, λ g. refl) };
+      view-of = record { meets = ViewOf.Met.met; total = λ M 𝓤 H A mem run κs a. (tt, λ g. refl) };
+      view-look-up = record { meets = ViewLookUp.Met.met; total = λ M 𝓤 H A mem run κs a. (tt, λ g. refl) };
+      viewed = record { meets = Viewed.Met.met; total = λ M 𝓤 H A mem run κs a. (tt, λ g. refl) };
+      answered = record { meets = ListingAnswered.Met.met; total = λ M 𝓤 H A mem run κs a. (tt, λ g. refl) };
+      refused = record { meets = ListingRefused.Met.met; total = λ M 𝓤 H A mem run κs a. (tt, λ g. refl) };
+      filter-for-c = record { meets = CFilter.Met.met; total = λ M 𝓤 H A mem run κs a. (tt, λ g. refl) };
+      judge-for-c = record { meets = CJudge.Met.met; total = λ M 𝓤 H A mem run κs a. (tt, λ g. refl) };
+      start-for-c = record { meets = CStart.Met.met; total = λ M 𝓤 H A mem run κs a. (tt, λ g. refl) };
+      step-for-c = record { meets = CStep.Met.met; total = λ M 𝓤 H A mem run κs a. (tt, λ g. refl) };
+      over = record { meets = Over.Met.met; total = λ M 𝓤 H A mem run κs a. (tt, λ g. refl) };
+      check = record { meets = Check.Met.met; total = λ M 𝓤 H A mem run κs a. (tt, λ g. refl) };
+      check-request = record { meets = CheckRequest.Met.met; total = λ M 𝓤 H A mem run κs a. (tt, λ g. refl) };
+      low = record { meets = Low.Met.met; total = λ M 𝓤 H A mem run κs a. (tt, λ g. refl) };
+      rows = record { meets = Rows.Met.met; total = λ M 𝓤 H A mem run κs a. (tt, λ g. refl) };
+      «open» = record { meets = Open.Met.met; total = λ M 𝓤 H A mem run κs a. (tt, λ g. refl) };
+      range-at = record { meets = RangeAt.Met.met; total = λ M 𝓤 H A mem run κs a. (tt, λ g. refl) };
+      number = record { meets = Number.Met.met; total = λ M 𝓤 H A mem run κs a. (tt, λ g. refl) };
+      number-of-a-step = record { meets = StepNumber.Met.met; total = λ M 𝓤 H A mem run κs a. (tt, λ g. refl) };
+      number-of-a-card = record { meets = CardNumber.Met.met; total = λ M 𝓤 H A mem run κs a. (tt, λ g. refl) };
+    }
+
 pub demands : Demands
-demands = record { first = demand1; second = demand2; third = demand3 }
+demands = record { first = demand1; second = demand2; third = demand3; contracts = contracts }

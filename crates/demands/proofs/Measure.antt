@@ -10,10 +10,10 @@ use mathlib.Core.Path.{_≡_, sym, _∙_, subst}
 use lib.IntN.{ℤ}
 use lib.ListN.{length}
 use Rattle.judge.proofs.Allowing.{Allowed, allowing, said}
-use Rattle.judge.specs.Ranges.{ChosenIn}
-use Rattle.judge.specs.Rule.{legal, windows, covered}
-use Rattle.judge.specs.declared.settings.CountRange.{CountRange}
-use Rattle.judge.specs.declared.settings.Settings.{Settings}
+use Rattle.rule.specs.Ranges.{ChosenIn}
+use Rattle.rule.specs.Rule.{legal, windows, covered}
+use Rattle.settings.specs.declared.CountRange.{CountRange}
+use Rattle.settings.specs.declared.Settings.{Settings}
 use Rattle.published.proofs.Corners.{recount}
 use Rattle.published.proofs.Theorems.{theorems}
 use Rattle.published.specs.Published.{Run, Obeys, runs}

@@ -4,15 +4,15 @@ use native.Mathlib.Omega.{arith}
 use mathlib.Core.List.{List}
 use lib.IntN.{ℤ}
 use lib.ListN.{length}
-use Rattle.judge.proofs.Onward.{as-long}
-use Rattle.judge.proofs.Tally.{covered-le}
-use Rattle.judge.specs.Rule.{carries, covered}
+use Rattle.rule.proofs.Onward.{as-long}
+use Rattle.rule.proofs.Tally.{covered-le}
+use Rattle.rule.specs.Rule.{carries, covered}
 use Rattle.published.proofs.Theorems.{theorems}
 use Rattle.published.specs.Published.{Run, SpringyFocus, runs}
 use Rattle.watch.proofs.Counting.{least}
 use Rattle.watch.proofs.Reaching.{settled}
 use Rattle.watch.specs.States.{Leads}
-use Rattle.watch.specs.declared.start.Watch.{Watch}
+use Rattle.watch.specs.declared.Watch.{Watch}
 use Rattle.demands.proofs.Measure.{drawn-by}
 use Rattle.demands.specs.Demands.{Least}
 

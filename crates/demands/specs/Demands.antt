@@ -1,43 +1,104 @@
--- The three demands, as far as they stand: of what the filter hands back, of what the judge says, of the watch's count, and of the
--- definitions. Proved in proofs/Demands.antt, each line from where it is proved.
+-- The three demands on one page, over every operation that a caller can reach. Each line is a theorem, or says that an operation
+-- meets its contract, which asks nothing of the caller (`Contracts`, at the end); proofs/Demands.antt cites each from where it is
+-- proved.
 --
--- What the filter hands back for a request r is an outcome o with `Keeps r o`: that is the contract of `filter`
--- (crates/filter/src/lib.rt), for all inputs. Each line below that has `Keeps` speaks of it, and by the contract alone.
+-- What an operation hands back is known by its contract, and by nothing else. What the filter hands back for a request r is an
+-- outcome o with `Keeps r o`: each line below that has `Keeps` speaks of it. What the judge tells is `judgment`, what the chooser hands
+-- back is `Chosen`, what a watch gives is `starting` and `Steps`, what the reader leaves is `reading`, and what a look-up gives, also
+-- through a view, is `looking`.
 use Prim.Native.Nat.{ℕ, _≤_, _<_, max}
 use mathlib.Core.Bool.{true}
 use mathlib.Core.List.{List, [], _∷_}
-use mathlib.Core.Logic.{_↔_}
+use mathlib.Core.Logic.{_↔_, _⊎_}
 use mathlib.Core.Option.{none, some}
 use mathlib.Core.Path.{_≡_}
+use denote.Ref.{RefT, now}
 use lib.IntN.{ℤ}
 use lib.ListN.{length}
+use Rattle.rule.specs.Ranges.{ChosenIn}
+use Rattle.settings.specs.Refusals.{row, refusal}
+use Rattle.settings.specs.declared.CountRange.{CountRange}
+use Rattle.settings.specs.declared.Settings.{Settings}
 use Rattle.judge.specs.Judgment.{says, refuses, judgment}
-use Rattle.judge.specs.Ranges.{ChosenIn}
-use Rattle.judge.specs.Refusals.{refusal}
-use Rattle.judge.specs.declared.settings.CountRange.{CountRange}
-use Rattle.judge.specs.declared.settings.Settings.{Settings}
+use Rattle.chooser.specs.Choice.{EmptyPart, Chosen}
 use Rattle.published.specs.Published.{Run, size, sum, _⊆_, Focus, SpringyFocus, WeightedFocus, WeightedSpringyFocus, runs}
 use Rattle.requests.specs.Demand3.{Demand3}
 use Rattle.requests.specs.Promise.{refuses as Answer·refuses, no-plan, planned, Outcome, Held, Unaltered, Keeps, Alike}
 use Rattle.requests.specs.Request.{Request, slots, paired, ranges, at, Refused, refused, WellFormed}
-use Rattle.watch.specs.States.{Leads}
-use Rattle.watch.specs.declared.start.Watch.{Watch}
+use Rattle.watch.specs.Promise.{refuses as Start·refuses, starting, refuses-with, told, Steps}
+use Rattle.watch.specs.States.{startRefusal, Leads}
+use Rattle.watch.specs.declared.Watch.{Watch}
+use Rattle.watch.specs.declared.step.Stepped.{Stepped}
+use Rattle.form1.specs.Form1.{refusal as File·refusal}
+use Rattle.form1.specs.Opening.{refuses as Card·refuses}
+use Rattle.card.specs.Reading.{lentTooShort, reading, noSlot, looking}
+use Rattle.c_api.specs.Numbers.{Answered, Means, VerdictMeans}
+use Rattle.c_api.specs.WatchNumbers.{StartMeans, StepMeans}
+use Rattle.c_api.specs.declared.AnswerNumbers.{AnswerNumbers}
+use Rattle.demands.specs.Operation.{Operation}
+use Rattle.filter.proofs.filter as Filter
+use Rattle.judge.proofs.judge as Judge
+use Rattle.chooser.proofs.choose as Choose
+use Rattle.watch.proofs.Watch.start as Start
+use Rattle.watch.proofs.Watch.step as Step
+use Rattle.watch.proofs.Watch.run as Run
+use Rattle.card.proofs.read as Read
+use Rattle.card.proofs.look_up as LookUp
+use Rattle.view.proofs.view_of as ViewOf
+use Rattle.view.proofs.View.look_up as ViewLookUp
+use Rattle.view.proofs.viewed as Viewed
+use Rattle.listing.proofs.answered as ListingAnswered
+use Rattle.listing.proofs.refused as ListingRefused
+use Rattle.c_api.proofs.icecoppice_filter as CFilter
+use Rattle.c_api.proofs.icecoppice_judge as CJudge
+use Rattle.c_api.proofs.icecoppice_watch_start as CStart
+use Rattle.c_api.proofs.icecoppice_watch_step as CStep
+use Rattle.rule.proofs.over as Over
+use Rattle.settings.proofs.check as Check
+use Rattle.checks.proofs.check_request as CheckRequest
+use Rattle.least.proofs.low as Low
+use Rattle.least.proofs.rows as Rows
+use Rattle.form1.proofs.open as Open
+use Rattle.form1.proofs.range_at as RangeAt
+use Rattle.settings.proofs.Refusal.number as Number
+use Rattle.watch.proofs.step.Refusal.number as StepNumber
+use Rattle.form1.proofs.Refusal.number as CardNumber
 
--- Demand 1: every input gets a result or one numbered refusal. That the functions do so stands in their contracts, which have no
--- `requires`: the filter's; what `judge` tells is `judgment` (crates/judge/src/verdict.rt); what `choose` hands back is `Chosen`
--- (crates/judge/src/choice.rt). The last two take shared slices and write nothing. For C, crates/c_api/src/lib.rt has the filter's
--- and the judge's in numbers. What the contracts say of refusals:
+-- Demand 1: every input gets a result or one numbered refusal (from the chooser, an empty part), and what is lent is unaltered after
+-- a refusal or a "no plan". That every input may be given is said by `Contracts`. The judge, the chooser, the watch, the look-up and
+-- the view take values and shared slices, and write nothing; the listing refuses nothing.
 pub record Demand1 : Type 0 where
-  -- the judge refuses with the first number that applies, and in no other situation
-  pub judge : (s : Settings) (loads : List ℤ) (marks : List ℕ) (n : ℕ) →
-      (judgment s loads marks ≡ refuses n) ↔ (refusal (length loads) (length marks ∷ []) s ≡ some n)
-  -- and so does the filter
+  -- the filter refuses with the first number that applies, and in no other situation
   pub filter : (r : Request) (o : Outcome) → Keeps r o → (f : Refused) → (o .answer ≡ Answer·refuses f) ↔ (refused r ≡ some f)
-  -- the filter's promise decides the answer and both load slices: nothing is left open but which plan is handed back
+  -- its promise decides the answer and both load slices: nothing is left open but which plan is handed back
   pub decided : (r : Request) (o p : Outcome) → Keeps r o → Keeps r p → Alike o p
-  -- after a refusal or a "no plan" the lent ranges and marks hold what they held before
   pub unaltered : (r : Request) (o : Outcome) → Keeps r o →
       (o .answer ≡ no-plan → Unaltered r o) × ((f : Refused) → o .answer ≡ Answer·refuses f → Unaltered r o)
+  -- so does the judge
+  pub judge : (s : Settings) (loads : List ℤ) (marks : List ℕ) (n : ℕ) →
+      (judgment s loads marks ≡ refuses n) ↔ (refusal (length loads) (length marks ∷ []) s ≡ some n)
+  -- the chooser hands back one of the two plans, to which the judge says yes, or the empty part; and that after any refusal
+  pub chooser : (s : Settings) (loads : List ℤ) (a b r : RefT (List ℕ)) → Chosen s loads a b r →
+      (((r ≡ a) ⊎ (r ≡ b)) × ((w : ℕ) × (c : ℕ) × (judgment s loads (now r) ≡ says true w c))) ⊎ EmptyPart a r
+  pub chooser-refused : (s : Settings) (loads : List ℤ) (a b r : RefT (List ℕ)) (n : ℕ) →
+      (judgment s loads (now a) ≡ refuses n) ⊎ (judgment s loads (now b) ≡ refuses n) → Chosen s loads a b r → EmptyPart a r
+  -- a watch's start refuses so; a refusal of a step is 32 or 33, each exactly when `Steps` says, and keeps the state
+  pub start : (k : ℤ) (len h n : ℕ) → (starting k len h ≡ Start·refuses n) ↔ (startRefusal len h ≡ some n)
+  pub step : (w : Watch) (load : ℤ) (r : Stepped) → Steps w load r → (n : ℕ) → told (r .answer) ≡ refuses-with n →
+      ((n ≡ 32) ⊎ (n ≡ 33)) × (r .watch ≡ w)
+  -- the reader and the look-up refuse so, the reader leaving both slices as they were
+  pub reader : (file : List ℕ) (los his : List ℤ) (n : ℕ) →
+      (reading file los his .answer ≡ Card·refuses n) ↔ (File·refusal (row 17 (lentTooShort los his file)) file ≡ some n)
+  pub reader-unaltered : (file : List ℕ) (los his : List ℤ) (n : ℕ) → reading file los his .answer ≡ Card·refuses n →
+      (reading file los his .lowest ≡ los) × (reading file los his .highest ≡ his)
+  pub look-up : (slot : ℕ) (file : List ℕ) (n : ℕ) →
+      (looking slot file ≡ Card·refuses n) ↔ (File·refusal (row 19 (noSlot slot file)) file ≡ some n)
+  -- for C, the numbers tell which of these it was
+  pub filter-for-c : (r : Request) (numbers : AnswerNumbers) (los his : List ℤ) (ms : List ℕ) → Answered r numbers los his ms →
+      Means r numbers
+  pub judge-for-c : (s : Settings) (loads : List ℤ) (marks : List ℕ) → VerdictMeans s loads marks
+  pub start-for-c : StartMeans
+  pub step-for-c : StepMeans
 
 -- Demand 2, measured against the published definitions.
 
@@ -112,8 +173,46 @@ pub record Demand2 : Type 0 where
   pub watch : (k : ℤ) (len h : ℕ) (X : List ℤ) (w : Watch) → Leads k len h X w →
       Least (λ yc. (S : List Run) × SpringyFocus X yc len h k S) (w .windows)
 
--- Demand 3 stands in crates/requests/specs/Demand3.antt.
-pub record Demands : Type 0 where
+-- Each operation meets its contract, as its source states it, and no contract has a `requires`.
+pub record Contracts : Type 2 where
+  -- crates/filter/src/lib.rt
+  pub filter : Operation Filter.Statement.statement Filter.signature (λ M 𝓤. Filter.spec 𝓤)
+  -- crates/judge/src/lib.rt and crates/chooser/src/lib.rt
+  pub judge : Operation Judge.Statement.statement Judge.signature (λ M 𝓤. Judge.spec 𝓤)
+  pub choose : Operation Choose.Statement.statement Choose.signature (λ M 𝓤. Choose.spec 𝓤)
+  -- crates/watch/src
+  pub start : Operation Start.Statement.statement Start.signature (λ M 𝓤. Start.spec 𝓤)
+  pub step : Operation Step.Statement.statement Step.signature (λ M 𝓤. Step.spec 𝓤)
+  pub run : Operation Run.Statement.statement Run.signature (λ M 𝓤. Run.spec 𝓤)
+  -- crates/card/src and crates/view/src/lib.rt
+  pub read : Operation Read.Statement.statement Read.signature (λ M 𝓤. Read.spec 𝓤)
+  pub look-up : Operation LookUp.Statement.statement LookUp.signature (λ M 𝓤. LookUp.spec 𝓤)
+  pub view-of : Operation ViewOf.Statement.statement ViewOf.signature (λ M 𝓤. ViewOf.spec 𝓤)
+  pub view-look-up : Operation ViewLookUp.Statement.statement ViewLookUp.signature (λ M 𝓤. ViewLookUp.spec 𝓤)
+  pub viewed : Operation Viewed.Statement.statement Viewed.signature (λ M 𝓤. Viewed.spec 𝓤)
+  -- crates/listing/src
+  pub answered : Operation ListingAnswered.Statement.statement ListingAnswered.signature (λ M 𝓤. ListingAnswered.spec 𝓤)
+  pub refused : Operation ListingRefused.Statement.statement ListingRefused.signature (λ M 𝓤. ListingRefused.spec 𝓤)
+  -- crates/c_api/src
+  pub filter-for-c : Operation CFilter.Statement.statement CFilter.signature (λ M 𝓤. CFilter.spec 𝓤)
+  pub judge-for-c : Operation CJudge.Statement.statement CJudge.signature (λ M 𝓤. CJudge.spec 𝓤)
+  pub start-for-c : Operation CStart.Statement.statement CStart.signature (λ M 𝓤. CStart.spec 𝓤)
+  pub step-for-c : Operation CStep.Statement.statement CStep.signature (λ M 𝓤. CStep.spec 𝓤)
+  -- what these share: the test of a load, checks, least counts, a file's trailer and records, and the numbers of refusals
+  pub over : Operation Over.Statement.statement Over.signature (λ M 𝓤. Over.spec 𝓤)
+  pub check : Operation Check.Statement.statement Check.signature (λ M 𝓤. Check.spec 𝓤)
+  pub check-request : Operation CheckRequest.Statement.statement CheckRequest.signature (λ M 𝓤. CheckRequest.spec 𝓤)
+  pub low : Operation Low.Statement.statement Low.signature (λ M 𝓤. Low.spec 𝓤)
+  pub rows : Operation Rows.Statement.statement Rows.signature (λ M 𝓤. Rows.spec 𝓤)
+  pub «open» : Operation Open.Statement.statement Open.signature (λ M 𝓤. Open.spec 𝓤)
+  pub range-at : Operation RangeAt.Statement.statement RangeAt.signature (λ M 𝓤. RangeAt.spec 𝓤)
+  pub number : Operation Number.Statement.statement Number.signature (λ M 𝓤. Number.spec 𝓤)
+  pub number-of-a-step : Operation StepNumber.Statement.statement StepNumber.signature (λ M 𝓤. StepNumber.spec 𝓤)
+  pub number-of-a-card : Operation CardNumber.Statement.statement CardNumber.signature (λ M 𝓤. CardNumber.spec 𝓤)
+
+-- Demand 3 stands in crates/requests/specs/Demand3.antt, of the definitions and of what the filter hands back.
+pub record Demands : Type 2 where
   pub first : Demand1
   pub second : Demand2
   pub third : Demand3
+  pub contracts : Contracts

@@ -1,1 +1,2 @@
 pub mod Demands
+pub mod Operation

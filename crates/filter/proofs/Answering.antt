@@ -1,48 +1,27 @@
 -- The filter's answers keep its promise: what the functions called on the way gave, taken together.
 use Prim.Native.Nat.{ℕ, suc, _-_, _≤_, _<_}
 use native.Mathlib.Omega.{arith}
-use mathlib.Core.Bool.{Bool, true, false, true≢false}
-use mathlib.Core.List.{List, [], _∷_}
-use mathlib.Core.Option.{some, none}
+use mathlib.Core.Bool.{true, false, true≢false}
+use mathlib.Core.List.{List, []}
+use mathlib.Core.Option.{some}
 use mathlib.Core.Path.{_≡_, refl, sym, _∙_}
 use borrow.Author.Tests.{le-leb, lt-leb}
 use lib.IntN.{ℤ}
 use lib.ListN.{length, take}
 use lib.Seq.{length-take-le}
-use Rattle.judge.specs.Ranges.{Class, allows}
-use Rattle.judge.specs.Refusals.{limit, wrongOther, refusalBy, refusal, number, checked}
-use Rattle.judge.specs.Rule.{legalBy, windows, covered}
-use Rattle.judge.specs.declared.settings.Checked.{Checked}
-use Rattle.judge.specs.declared.settings.Checked.the-variants.{Passed, Refused}
-use Rattle.judge.specs.declared.settings.CountRange.{CountRange}
-use Rattle.judge.specs.declared.settings.Refusal.{Refusal}
-use Rattle.judge.specs.declared.settings.Settings.{Settings}
+use Rattle.rule.specs.Ranges.{Class, allows}
+use Rattle.settings.specs.Refusals.{limit}
+use Rattle.rule.specs.Rule.{legalBy, windows, covered}
+use Rattle.settings.specs.declared.CountRange.{CountRange}
+use Rattle.settings.specs.declared.Settings.{Settings}
 use Rattle.requests.proofs.Keeping.{keeps}
 use Rattle.requests.proofs.Requests.{formed, fits→plan}
-use Rattle.filter.specs.Parts.{met}
 use Rattle.requests.specs.Promise.{refuses, no-plan, planned, Keeps}
-use Rattle.requests.specs.Request.{Request, slots, ranges, Refused as Refusing, crossed, numbered, at-slot, refused, WellFormed}
+use Rattle.requests.specs.Request.{Request, slots, Refused, refused, WellFormed}
 use Rattle.requests.specs.Solution.{classes, cheapest, sparsest, possible, lowestLeft, highestLeft, raised, found, unaltered, outcome}
-use Rattle.filter.specs.declared.classes.Crossing.{Crossing}
-use Rattle.filter.specs.declared.rows.Least.{Least}
-use Rattle.filter.specs.declared.classes.Crossing.the-variants.{At, Nowhere}
+use Rattle.least.specs.declared.Least.{Least}
 
-module _ (r : Request) (d : Bool) (k : Checked) (differs : d ≡ wrongOther (slots r) (length (r .highest) ∷ length (r .marks) ∷ []))
-    (is : checked k ≡ refusalBy (slots r) d (r .settings)) where
-  pub first-refusal : (f : Refusal) → k ≡ Refused f → refused r ≡ some (numbered (number f))
-  unfolding refused refusal
-  first-refusal f e = rw (← differs, ← is, e) refl
-
-  module _ (passed : k ≡ Passed) (x : Crossing) (slot : met x ≡ crossed 0 (ranges r)) where
-    pub first-crossed : (i : ℕ) → x ≡ At i → refused r ≡ some (at-slot 31 i)
-    unfolding refused refusal
-    first-crossed i e = rw (← differs, ← is, passed, ← slot, e) refl
-
-    pub well-formed : x ≡ Nowhere → WellFormed r
-    unfolding refused refusal
-    well-formed e = rw (← differs, ← is, passed, ← slot, e) refl
-
-pub refusal-kept : (r : Request) {f : Refusing} → refused r ≡ some f → Keeps r (unaltered r (refuses f))
+pub refusal-kept : (r : Request) {f : Refused} → refused r ≡ some f → Keeps r (unaltered r (refuses f))
 refusal-kept r e = (e, record { lowest = refl; highest = refl; marks = refl })
 
 module _ (r : Request) (well : WellFormed r) where

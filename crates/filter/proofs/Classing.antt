@@ -1,5 +1,4 @@
--- Slots from the first on: where ranges cross (the loop of `filter::classes::first_crossed`), and what each slot can be (that of
--- `filter::classes::classify`).
+-- What each slot can be, from the first on (the loop of `filter::classes::classify`).
 use Prim.Native.Nat.{ℕ, suc, _+_, _≤_, _<_}
 use native.Mathlib.Nat.{eq-or-lt-of-le}
 use native.Mathlib.Numerals.{add-one}
@@ -13,40 +12,13 @@ use lib.IntN.{ℤ, pos}
 use lib.ListN.{length, drop, take, getD, set, replicate, drop-of-length-le, length-map, length-set, length-replicate}
 use lib.Seq.{drop-cons, ext-getD, getD-set-same, getD-set-other, length-take-le}
 use lib.Signed.{ltZ}
-use Rattle.judge.specs.Ranges.{under-only, classOf}
-use Rattle.judge.specs.Refusals.{limit}
+use Rattle.rule.specs.Ranges.{under-only, classOf}
+use Rattle.settings.specs.Refusals.{limit}
 use Rattle.requests.proofs.Choices.{paired-length}
-use Rattle.filter.proofs.Coding.{code-at}
+use Rattle.least.proofs.Coding.{code-at}
 use Rattle.requests.proofs.Narrowing.{class-at}
-use Rattle.filter.specs.Codes.{coded, decoded}
+use Rattle.least.specs.Codes.{coded, decoded}
 use Rattle.requests.specs.Request.{range, at, paired, crossed}
-
--- Before slot i no ranges cross.
-pub record Uncrossed (los his : List ℤ) (i : ℕ) : Type 0 where
-  pub inside : i ≤ length los
-  pub same : crossed i (paired (drop i los) (drop i his)) ≡ crossed 0 (paired los his)
-
-module _ {los his : List ℤ} where
-  pub none-met : Uncrossed los his 0
-  none-met = record { inside = omega arith; same = refl }
-
-  module _ (i : ℕ) (wide : length his ≡ length los) (u : Uncrossed los his i) where
-    -- slot i crosses, or the first crossing is behind it
-    one-met : i < length los →
-        cond (ltZ (at his i) (at los i)) (some i) (crossed (suc i) (paired (drop (suc i) los) (drop (suc i) his)))
-        ≡ crossed 0 (paired los his)
-    unfolding crossed
-    one-met e = rw (drop-cons los i (pos 0) e, drop-cons his i (pos 0) (omega arith)) at (u .same)
-
-    pub met-here : i < length los → ltZ (at his i) (at los i) ≡ true → some i ≡ crossed 0 (paired los his)
-    met-here e c = rw c at (one-met e)
-
-    pub met-later : i < length los → ltZ (at his i) (at los i) ≡ false → Uncrossed los his (i + 1)
-    met-later e c = rw add-one (record { inside = e; same = rw c at (one-met e) })
-
-    pub met-nowhere : length los ≤ i → none ≡ crossed 0 (paired los his)
-    unfolding crossed
-    met-nowhere e = rw (drop-of-length-le los {i = i} e) at (u .same)
 
 -- what holds of the places before i, and of the value written to place i, holds of the places before i + 1
 pub written : {A : Type 0} (P : ℕ → A → Type 0) (l : List A) (i : ℕ) (v d : A) → i < length l →

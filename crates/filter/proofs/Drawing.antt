@@ -10,20 +10,20 @@ use borrow.Author.Tests.{ne-eqb, leb-true, eqb-true, eqb-false, ltb-true, ltb-fa
 use lib.Dec.{eqb, ltb}
 use lib.ListN.{length, drop, take, getD, set, length-set, length-map, drop-of-length-le}
 use lib.Seq.{take-all, take-suc-set, append-snoc}
-use Rattle.judge.proofs.Plan.{State, out, on, done, skip, opens, close, more, bridges, plan→legal}
-use Rattle.judge.proofs.Rules.{at-most}
-use Rattle.judge.specs.Ranges.{Class, under-only, over-only, either, allows}
-use Rattle.judge.specs.Refusals.{limit}
-use Rattle.judge.specs.Rule.{goesWith, count, legalBy, windows, covered}
-use Rattle.judge.specs.declared.settings.Settings.{Settings}
-use Rattle.filter.proofs.Coding.{cannot-be-uncovered}
+use Rattle.rule.proofs.Plan.{State, out, on, done, skip, opens, close, more, bridges, plan→legal}
+use Rattle.facts.proofs.Rules.{at-most}
+use Rattle.rule.specs.Ranges.{Class, under-only, over-only, either, allows}
+use Rattle.settings.specs.Refusals.{limit}
+use Rattle.rule.specs.Rule.{goesWith, count, legalBy, windows, covered}
+use Rattle.settings.specs.declared.Settings.{Settings}
+use Rattle.least.proofs.Coding.{cannot-be-uncovered}
 use Rattle.requests.proofs.Exact.{Marks, Fits, least}
-use Rattle.filter.proofs.Filling.{at-slot}
-use Rattle.filter.proofs.Scanning.{from-slot}
+use Rattle.least.proofs.Filling.{at-slot}
+use Rattle.least.proofs.Scanning.{from-slot}
 use Rattle.requests.specs.Best.{spend, dearer, best, onward, after}
-use Rattle.filter.specs.Codes.{coded, decoded}
+use Rattle.least.specs.Codes.{coded, decoded}
 use Rattle.filter.specs.Drawing.{Able, closedBy, outsideBy, insideBy, nextBy}
-use Rattle.filter.specs.Rows.{Behind}
+use Rattle.least.specs.Rows.{Behind}
 use Rattle.requests.specs.Solution.{sentinel, possible}
 use Rattle.filter.specs.declared.draw.Pen.{Pen}
 

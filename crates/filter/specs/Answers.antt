@@ -2,10 +2,9 @@
 use Prim.Native.Nat.{ℕ}
 use mathlib.Core.List.{List}
 use lib.IntN.{ℤ}
-use Rattle.judge.specs.Refusals.{number}
-use Rattle.judge.specs.declared.settings.Settings.{Settings}
+use Rattle.settings.specs.Refusals.{number}
 use Rattle.requests.specs.Promise.{Answer as Promised, refuses, no-plan, planned, Outcome}
-use Rattle.requests.specs.Request.{Request, numbered, at-slot}
+use Rattle.requests.specs.Request.{numbered, at-slot}
 use Rattle.filter.specs.declared.Answer.{Answer}
 use Rattle.filter.specs.declared.Answer.the-variants.{Refused, Crossed, NoPlan, Planned}
 
@@ -16,9 +15,6 @@ told (Crossed slot) = refuses (at-slot 31 slot)
 told NoPlan = no-plan
 told (Planned w c) = planned w c
 
--- what is given, and what comes back
-abbrev pub asked : Settings → (lowest highest : List ℤ) (marks : List ℕ) → Request
-asked s lo hi ms = record { settings = s; lowest = lo; highest = hi; marks = ms }
-
+-- all that comes back
 abbrev pub handed : Answer → (lowest highest : List ℤ) (marks : List ℕ) → Outcome
 handed a lo hi ms = record { answer = told a; lowest = lo; highest = hi; marks = ms }

@@ -3,7 +3,7 @@ use Prim.Native.Nat.{ℕ, _-_, _≤_}
 use mathlib.Core.Bool.{false, cond, _||_}
 use mathlib.Core.Path.{_≡_}
 use lib.Dec.{eqb, ltb}
-use Rattle.judge.specs.Ranges.{Class, allows}
+use Rattle.rule.specs.Ranges.{Class, allows}
 use Rattle.filter.specs.declared.draw.Pen.{Pen}
 
 -- a window closes where the slots from here on cover no more than is left, but never behind a bridge

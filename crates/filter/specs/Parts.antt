@@ -1,17 +1,9 @@
--- The words of the private functions' enums: where ranges cross, and what a slot loses.
-use Prim.Native.Nat.{ℕ}
-use mathlib.Core.Option.{Option, none, some}
+-- The words of the private functions' enum: what a slot loses.
 use lib.IntN.{ℤ}
 use lib.Signed.{_≤ℤ_, _<ℤ_}
 use Rattle.requests.specs.Promise.{Loss, nothing, under-part, over-part}
-use Rattle.filter.specs.declared.classes.Crossing.{Crossing}
-use Rattle.filter.specs.declared.classes.Crossing.the-variants.{At, Nowhere}
 use Rattle.filter.specs.declared.narrow.Part.{Part}
 use Rattle.filter.specs.declared.narrow.Part.the-variants.{Nothing, Under, Over}
-
-abbrev pub met : Crossing → Option ℕ
-met (At i) = some i
-met Nowhere = none
 
 abbrev pub losing : Part → Loss
 losing Nothing = nothing

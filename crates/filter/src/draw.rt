@@ -3,17 +3,17 @@ ghost use mathlib.Core.Bool.{true};
 ghost use mathlib.Core.Path.{_≡_};
 ghost use Prim.Native.Nat.{_-_, _+_, _≤_, _<_};
 ghost use lib.ListN.{length};
-ghost use Rattle.judge.specs.Ranges.{allows};
-ghost use Rattle.judge.specs.Refusals.{limit};
-ghost use Rattle.judge.specs.Rule.{legalBy, windows, covered};
-ghost use Rattle.filter.specs.Codes.{coded, decoded};
+ghost use Rattle.rule.specs.Ranges.{allows};
+ghost use Rattle.settings.specs.Refusals.{limit};
+ghost use Rattle.rule.specs.Rule.{legalBy, windows, covered};
+ghost use Rattle.least.specs.Codes.{coded, decoded};
 ghost use Rattle.filter.specs.Drawing.{Able, closedBy, nextBy};
-ghost use Rattle.filter.specs.Rows.{Behind};
+ghost use Rattle.least.specs.Rows.{Behind};
 ghost use Rattle.requests.specs.Solution.{possible};
-use crate::classes::OVER;
-use crate::classes::UNDER;
-use crate::rows::rows;
-use judge::Settings;
+use least::OVER;
+use least::UNDER;
+use least::rows;
+use settings::Settings;
 
 // Where the drawing stands: the mark before, 0 at the start, and the windows and covered slots that are left to the plan. What
 // is left to a window need not be kept: the rows are about windows that fit.

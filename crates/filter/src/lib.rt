@@ -1,27 +1,23 @@
 // The filter, as document 01 calls it: cuts load ranges to what some plan needs, and draws a plan. What it promises is in the
 // crate requests: specs/Request.antt has the words of a request, specs/Promise.antt what comes back.
 ghost use mathlib.Core.Path.{_≡_};
-ghost use Rattle.filter.specs.Answers.{asked, handed};
+ghost use Rattle.filter.specs.Answers.{handed};
 ghost use Rattle.requests.specs.Promise.{Keeps};
-ghost use Rattle.requests.specs.Request.{WellFormed};
+ghost use Rattle.requests.specs.Request.{asked, WellFormed};
 ghost use Rattle.requests.specs.Solution.{raised};
-use crate::classes::Crossing;
 use crate::classes::classify;
-use crate::classes::differ;
-use crate::classes::first_crossed;
 use crate::draw::draw;
 use crate::narrow::narrow;
-use crate::rows::low;
-use judge::Checked;
-use judge::CountRange;
-use judge::Refusal;
-use judge::Settings;
-use judge::check;
+use checks::Formed;
+use checks::check_request;
+use least::low;
+use settings::CountRange;
+use settings::Refusal;
+use settings::Settings;
 
 mod classes;
 mod draw;
 mod narrow;
-mod rows;
 
 // What the filter answers. Crossed is refusal 31, with the first slot whose lowest load is above its highest.
 pub enum Answer {
@@ -46,17 +42,12 @@ pub fn filter(
         (asked settings (now (lowest .entry)) (now (highest .entry)) (now (marks .entry)))
         (handed r (now (lowest .exit)) (now (highest .exit)) (now (marks .exit))) ⌝ }
 {
-    let n = lowest.len();
-    let differs = differ(n, highest.len(), marks.len());
-    let checked = check(settings, n, differs);
-    if let Checked::Refused(refusal) = checked {
-        return Answer::Refused(refusal);
+    let formed = check_request(settings, lowest, highest, marks);
+    match formed {
+        Formed::Well => plan(settings, lowest, highest, marks),
+        Formed::Refused(refusal) => Answer::Refused(refusal),
+        Formed::Crossed(slot) => Answer::Crossed(slot),
     }
-    let crossing = first_crossed(lowest, highest);
-    if let Crossing::At(slot) = crossing {
-        return Answer::Crossed(slot);
-    }
-    plan(settings, lowest, highest, marks)
 }
 
 // The same for a request that is not refused.

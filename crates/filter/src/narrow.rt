@@ -3,17 +3,17 @@ ghost use mathlib.Core.List.{map};
 ghost use mathlib.Core.Path.{_≡_};
 ghost use Prim.Native.Nat.{_≤_, _<_};
 ghost use lib.ListN.{length, take, set};
-ghost use Rattle.judge.specs.Refusals.{limit};
-ghost use Rattle.judge.specs.Ranges.{classOf};
+ghost use Rattle.settings.specs.Refusals.{limit};
+ghost use Rattle.rule.specs.Ranges.{classOf};
 ghost use Rattle.filter.specs.Parts.{losing, Loses};
-ghost use Rattle.filter.specs.Codes.{coded, decoded};
+ghost use Rattle.least.specs.Codes.{coded, decoded};
 ghost use Rattle.requests.specs.Promise.{lowestAfter, highestAfter};
 ghost use Rattle.requests.specs.Request.{paired};
 ghost use Rattle.requests.specs.Solution.{possible, loss, lowestLeft, highestLeft};
-use crate::classes::OVER;
-use crate::classes::UNDER;
-use crate::rows::low;
-use judge::Settings;
+use least::OVER;
+use least::UNDER;
+use least::low;
+use settings::Settings;
 
 // What a slot loses.
 pub enum Part {

@@ -9,11 +9,11 @@ use borrow.Author.Tests.{le-leb, leb-true}
 use lib.Dec.{leb}
 use lib.IntN.{ℤ}
 use lib.ListN.{length}
-use Rattle.judge.proofs.Rules.{both}
-use Rattle.judge.specs.declared.settings.Settings.{Settings}
+use Rattle.facts.proofs.Rules.{both}
+use Rattle.settings.specs.declared.Settings.{Settings}
 use Rattle.judge.specs.Judgment.{Judgment, says, refuses, allowed, unless, judgment}
-use Rattle.judge.specs.Refusals.{refusal}
-use Rattle.judge.specs.Rule.{legal, windows, covered}
+use Rattle.settings.specs.Refusals.{refusal}
+use Rattle.rule.specs.Rule.{legal, windows, covered}
 
 pub record Allowed (s : Settings) (loads : List ℤ) (marks : List ℕ) : Type 0 where
   pub in-rule : legal (s .k) (s .len) (s .h) loads marks ≡ true

@@ -6,14 +6,14 @@ use mathlib.Core.Path.{_≡_}
 use borrow.Author.Tests.{le-leb, lt-leb, not-true, not-false}
 use lib.IntN.{ℤ}
 use lib.ListN.{length}
-use Rattle.judge.proofs.Rules.{and-false}
+use Rattle.facts.proofs.Rules.{and-false}
 use Rattle.judge.specs.Judgment.{says, refuses, allowed, judgment}
-use Rattle.judge.specs.Refusals.{wrongOther, refusalBy, refusal, number, checked}
-use Rattle.judge.specs.Rule.{legal, windows, covered}
-use Rattle.judge.specs.declared.settings.Checked.the-variants.{Passed, Refused}
-use Rattle.judge.specs.declared.settings.Checked.{Checked}
-use Rattle.judge.specs.declared.settings.Refusal.{Refusal}
-use Rattle.judge.specs.declared.settings.Settings.{Settings}
+use Rattle.settings.specs.Refusals.{wrongOther, refusalBy, refusal, number, checked}
+use Rattle.rule.specs.Rule.{legal, windows, covered}
+use Rattle.settings.specs.declared.Checked.the-variants.{Passed, Refused}
+use Rattle.settings.specs.declared.Checked.{Checked}
+use Rattle.settings.specs.declared.Refusal.{Refusal}
+use Rattle.settings.specs.declared.Settings.{Settings}
 
 module _ (s : Settings) (xs : List ℤ) (ms : List ℕ) (d : Bool) (k : Checked) (differs : d ≡ wrongOther (length xs) (length ms ∷ []))
     (is : checked k ≡ refusalBy (length xs) d s) where

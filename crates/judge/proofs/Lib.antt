@@ -1,16 +1,5 @@
 pub mod Allowing
-pub mod Bytes
 pub mod Judging
-pub mod Loads
-pub mod Loosening
-pub mod Onward
-pub mod Passing
-pub mod Plan
-pub mod Ranges
-pub mod Rows
-pub mod Rules
 pub mod Scan
-pub mod Signs
 pub mod Steps
-pub mod Tally
 pub mod Told

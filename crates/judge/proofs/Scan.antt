@@ -7,12 +7,13 @@ use mathlib.Core.Path.{_≡_}
 use lib.Dec.{eqb}
 use lib.IntN.{ℤ, pos}
 use lib.ListN.{length, drop, getD, drop-of-length-le}
-use Rattle.judge.proofs.Onward.{Fits, Passes, Onward, start, begin, whole, split, join, end, ended}
-use Rattle.judge.proofs.Rules.{same, refuted, uncons, at-most}
+use Rattle.rule.proofs.Onward.{Fits, Passes, Onward, start, begin, whole, split, join, end, ended}
+use Rattle.facts.proofs.Rules.{same, refuted, uncons, at-most}
 use Rattle.judge.proofs.Steps.{broken, taken}
-use Rattle.judge.specs.Reading.{slotsAfter, bridgesAfter, advanced, stepOf}
-use Rattle.judge.specs.Rule.{over, carries, legal}
-use Rattle.judge.specs.declared.marks.Reading.{Reading}
+use Rattle.rule.specs.Reading.{slotsAfter, bridgesAfter, advanced}
+use Rattle.judge.specs.Steps.{stepOf}
+use Rattle.rule.specs.Rule.{over, carries, legal}
+use Rattle.rule.specs.declared.Reading.{Reading}
 use Rattle.judge.specs.declared.marks.Step.the-variants.{On, Broken}
 
 slots-rise : (m : ℕ) {l i : ℕ} → l ≤ i → slotsAfter l m ≤ i + 1

@@ -6,11 +6,12 @@ use mathlib.Core.Bool.{Bool, true, false, cond, not, _&&_}
 use mathlib.Core.Path.{_≡_, refl}
 use borrow.Author.Tests.{le-leb, lt-leb, leb-true, not-true, not-false}
 use lib.Dec.{leb}
-use Rattle.judge.proofs.Onward.{Passes}
-use Rattle.judge.proofs.Rules.{and-false, both}
-use Rattle.judge.specs.Reading.{slotsAfter, bridgesAfter, advanced, passes, stepOf}
-use Rattle.judge.specs.Rule.{goesWith, follows}
-use Rattle.judge.specs.declared.marks.Reading.{Reading}
+use Rattle.rule.proofs.Onward.{Passes}
+use Rattle.facts.proofs.Rules.{and-false, both}
+use Rattle.rule.specs.Reading.{slotsAfter, bridgesAfter, advanced}
+use Rattle.judge.specs.Steps.{passes, stepOf}
+use Rattle.rule.specs.Rule.{goesWith, follows}
+use Rattle.rule.specs.declared.Reading.{Reading}
 use Rattle.judge.specs.declared.marks.Step.the-variants.{On, Broken}
 
 module _ (len h : ℕ) (at : Reading) (o : Bool) (m : ℕ) where

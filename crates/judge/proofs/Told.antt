@@ -3,12 +3,12 @@ use Prim.Native.Nat.{ℕ}
 use mathlib.Core.Path.{_≡_, refl, sym, _∙_, ap}
 use mathlib.Core.Bool.{true, false, cond}
 use lib.Dec.{eqb}
-use Rattle.judge.specs.declared.settings.Refusal.{Refusal}
-use Rattle.judge.specs.declared.settings.Refusal.the-variants.{FirstLength, OtherLength, WindowLength, Bridges, WindowCounts, CoveredCounts}
-use Rattle.judge.specs.declared.verdict.Verdict.{Verdict}
-use Rattle.judge.specs.declared.verdict.Verdict.the-variants.{Yes, No, Refused}
+use Rattle.settings.specs.declared.Refusal.{Refusal}
+use Rattle.settings.specs.declared.Refusal.the-variants.{FirstLength, OtherLength, WindowLength, Bridges, WindowCounts, CoveredCounts}
+use Rattle.judge.specs.declared.Verdict.{Verdict}
+use Rattle.judge.specs.declared.Verdict.the-variants.{Yes, No, Refused}
 use Rattle.judge.specs.Judgment.{Judgment, says, refuses, told}
-use Rattle.judge.specs.Refusals.{number}
+use Rattle.settings.specs.Refusals.{number}
 
 abbrev numbered : ℕ → Refusal
 numbered n =

@@ -6,11 +6,11 @@ use mathlib.Core.Option.{Option, none, some}
 use lib.Dec.{leb}
 use lib.IntN.{ℤ}
 use lib.ListN.{length}
-use Rattle.judge.specs.declared.settings.Settings.{Settings}
-use Rattle.judge.specs.declared.verdict.Verdict.{Verdict}
-use Rattle.judge.specs.declared.verdict.Verdict.the-variants.{Yes, No, Refused}
-use Rattle.judge.specs.Rule.{legal, windows, covered}
-use Rattle.judge.specs.Refusals.{refusal, number}
+use Rattle.settings.specs.declared.Settings.{Settings}
+use Rattle.judge.specs.declared.Verdict.{Verdict}
+use Rattle.judge.specs.declared.Verdict.the-variants.{Yes, No, Refused}
+use Rattle.rule.specs.Rule.{legal, windows, covered}
+use Rattle.settings.specs.Refusals.{refusal, number}
 
 -- yes or no with the window and covered counts, or a refusal's number and no counts
 pub data Judgment : Type 0 where

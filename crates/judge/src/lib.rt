@@ -1,16 +1,52 @@
-// The rule of plans, the judge of finished plans and the chooser between two. The definitions that the contracts cite are in
-// specs/: Rule, Refusals, Judgment, Choice.
-mod choice;
-mod marks;
-mod settings;
-mod verdict;
+// The judge, as document 01 calls it: whether a finished plan is allowed. What it says is specs/Judgment.antt.
+ghost use mathlib.Core.List.{[], _∷_};
+ghost use mathlib.Core.Path.{_≡_};
+ghost use Rattle.settings.specs.Refusals.{wrongOther};
+ghost use Rattle.judge.specs.Judgment.{judgment, told};
+use crate::marks::count;
+use crate::marks::legal;
+use settings::Checked;
+use settings::Refusal;
+use settings::Settings;
+use settings::check;
 
-pub use choice::choose;
-pub use settings::Checked;
-pub use settings::CountRange;
-pub use settings::LIMIT;
-pub use settings::Refusal;
-pub use settings::Settings;
-pub use settings::check;
-pub use verdict::Verdict;
-pub use verdict::judge;
+mod marks;
+
+// What the judge says of a plan.
+pub enum Verdict {
+    Yes { windows: u16, covered: u16 },
+    No,
+    Refused(Refusal),
+}
+
+// Says yes exactly when the marks are legal for the loads and keep both maximums, with their window and covered counts.
+pub fn judge(settings: Settings, loads: &[i32], marks: &[u8]) -> Verdict
+    ensures { λ r. ⌜ told r ≡ judgment settings (now (loads .entry)) (now (marks .entry)) ⌝ }
+{
+    let differs = differ(loads.len(), marks.len());
+    let checked = check(settings, loads.len(), differs);
+    if let Checked::Refused(refusal) = checked {
+        return Verdict::Refused(refusal);
+    }
+    if !legal(settings, loads, marks) {
+        return Verdict::No;
+    }
+    let seen = count(marks);
+    if seen.windows > settings.windows.most {
+        return Verdict::No;
+    }
+    if seen.covered > settings.covered.most {
+        return Verdict::No;
+    }
+    Verdict::Yes {
+        windows: seen.windows,
+        covered: seen.covered,
+    }
+}
+
+// Whether the marks have another length than the loads, of which there are n: refusal 22.
+fn differ(n: usize, marks: usize) -> bool
+    ensures { λ r. ⌜ r ≡ wrongOther n (marks ∷ []) ⌝ }
+{
+    marks != n
+}

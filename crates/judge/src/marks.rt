@@ -2,17 +2,13 @@
 ghost use mathlib.Core.Path.{_≡_};
 ghost use Prim.Native.Nat.{_≤_, _<_};
 ghost use lib.ListN.{length};
-ghost use Rattle.judge.specs.Rule.{follows, goesWith, legal as Rule·legal, over as Rule·over, windows, covered};
-ghost use Rattle.judge.specs.Refusals.{limit};
-ghost use Rattle.judge.specs.Reading.{advanced, stepOf, countedOf};
-use crate::settings::Settings;
-
-// Where a reading stands: the mark before, 0 at the start, and the slots and bridges so far of the window that it lies in.
-pub struct Reading {
-    pub mark: u8,
-    pub slots: u16,
-    pub bridges: u16,
-}
+ghost use Rattle.rule.specs.Rule.{follows, goesWith, legal as Rule·legal, windows, covered};
+ghost use Rattle.settings.specs.Refusals.{limit};
+ghost use Rattle.rule.specs.Reading.{advanced};
+ghost use Rattle.judge.specs.Steps.{stepOf, countedOf};
+use rule::Reading;
+use rule::over;
+use settings::Settings;
 
 // One slot on, or the slot's mark breaks the rule.
 pub enum Step {
@@ -27,12 +23,6 @@ pub struct Counts {
 }
 
 // The tests of one slot.
-fn over(k: i32, load: i32) -> bool
-    ensures { λ r. ⌜ r ≡ Rule·over k load ⌝ }
-{
-    load > k
-}
-
 fn goes_with(over: bool, mark: u8) -> bool
     ensures { λ r. ⌜ r ≡ goesWith over mark ⌝ }
 {

@@ -7,7 +7,7 @@ use lib.IntN.{ℤ, pos, negsuc}
 use lib.ListN.{length, length-append}
 use mir.Syntax.{w32}
 use mir.Val.{SFits}
-use Rattle.judge.specs.declared.settings.CountRange.{CountRange}
+use Rattle.settings.specs.declared.CountRange.{CountRange}
 use Rattle.requests.specs.Promise.{no-plan, planned}
 use Rattle.requests.specs.Request.{numbered, at-slot}
 use Rattle.listing.proofs.Decimals.{digits-at-most}

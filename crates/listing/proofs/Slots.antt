@@ -6,7 +6,7 @@ use mathlib.Core.List.{List, [], _∷_, _++_}
 use mathlib.Core.Path.{_≡_, refl, ap, _∙_}
 use lib.IntN.{ℤ, pos}
 use lib.ListN.{length, getD, drop, length-append, length-drop}
-use Rattle.judge.proofs.Rules.{uncons}
+use Rattle.facts.proofs.Rules.{uncons}
 use Rattle.listing.proofs.Writing.{Left, all-left, less-left, nothing, written-length}
 use Rattle.listing.specs.Text.{row, rows, Written}
 

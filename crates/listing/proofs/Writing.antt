@@ -9,7 +9,7 @@ use borrow.Author.Tests.{leb-true, leb-false}
 use lib.Dec.{leb}
 use lib.ListN.{length, getD, drop, set, length-append, drop-of-length-le}
 use lib.Seq.{set-out, sets, length-sets}
-use Rattle.judge.proofs.Rules.{uncons}
+use Rattle.facts.proofs.Rules.{uncons}
 use Rattle.listing.specs.Text.{Written}
 
 -- nothing is stored behind the end

@@ -10,7 +10,7 @@ use lib.Dec.{ltb}
 use lib.IntN.{ℤ, pos, negsuc}
 use lib.ListN.{length}
 use lib.Seq.{sets}
-use Rattle.judge.specs.declared.settings.CountRange.{CountRange}
+use Rattle.settings.specs.declared.CountRange.{CountRange}
 use Rattle.requests.specs.Promise.{Answer, refuses, no-plan, planned, Outcome}
 use Rattle.requests.specs.Request.{Refused, numbered, at-slot}
 

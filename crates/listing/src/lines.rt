@@ -11,7 +11,7 @@ ghost use Rattle.requests.specs.Request.{numbered, at-slot};
 use crate::put::number;
 use crate::put::signed;
 use crate::put::word;
-use judge::CountRange;
+use settings::CountRange;
 
 const SPACE: u8 = b' ';
 

@@ -4,12 +4,13 @@ use mathlib.Core.List.{List, []}
 use mathlib.Core.Path.{_≡_, refl, sym, subst, ap, _∙_}
 use lib.IntN.{ℤ}
 use lib.ListN.{take}
-use Rattle.card.specs.Reading.{number, handed, reading}
+use Rattle.card.specs.Reading.{handed, reading}
 use Rattle.card.specs.declared.Reading.{Reading}
 use Rattle.card.specs.declared.Reading.the-variants.{Refused, Taken}
-use Rattle.card.specs.declared.check.Refusal.{Refusal}
-use Rattle.filter.specs.Answers.{asked}
-use Rattle.judge.specs.declared.settings.Settings.{Settings}
+use Rattle.form1.specs.Opening.{number}
+use Rattle.form1.specs.declared.Refusal.{Refusal}
+use Rattle.requests.specs.Request.{asked}
+use Rattle.settings.specs.declared.Settings.{Settings}
 use Rattle.requests.specs.Promise.{refuses, Outcome, Keeps}
 use Rattle.requests.specs.Request.{numbered}
 use Rattle.printer.specs.Printing.{Answered, OfFile}

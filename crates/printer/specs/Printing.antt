@@ -4,8 +4,9 @@ use mathlib.Core.List.{List}
 use mathlib.Core.Path.{_≡_}
 use lib.IntN.{ℤ, pos}
 use lib.ListN.{length, take, replicate}
-use Rattle.card.specs.Reading.{Answer, refuses, gives, Header, reading}
-use Rattle.filter.specs.Answers.{asked}
+use Rattle.card.specs.Reading.{Header, reading}
+use Rattle.form1.specs.Opening.{Answer, refuses, gives}
+use Rattle.requests.specs.Request.{asked}
 use Rattle.listing.specs.Text.{text, Written}
 use Rattle.requests.specs.Promise.{refuses as Promise·refuses, Outcome, Keeps}
 use Rattle.requests.specs.Request.{numbered}

@@ -2,17 +2,17 @@
 ghost use mathlib.Core.Path.{_≡_};
 ghost use Prim.Native.Nat.{_≤_};
 ghost use lib.ListN.{length};
-ghost use Rattle.filter.specs.Answers.{asked};
+ghost use Rattle.requests.specs.Request.{asked};
 ghost use Rattle.listing.specs.Text.{room};
 ghost use Rattle.printer.specs.Printing.{Printed, OfFile, loads, marks as Printing·marks};
 ghost use Rattle.requests.specs.Promise.{Keeps};
 use card::Reading;
 use card::read;
 use filter::filter;
-use judge::Settings;
 use libc::STDIN_FILENO;
 use libc::STDOUT_FILENO;
 use listing::ROOM;
+use settings::Settings;
 
 fn main() {
     // One byte more than a file may have, so that a longer one is refused.

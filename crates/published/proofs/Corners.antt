@@ -7,9 +7,9 @@ use mathlib.Core.Logic.{_↔_}
 use lib.IntN.{ℤ}
 use lib.ListN.{length, drop}
 use lib.Signed.{_<ℤ_}
-use Rattle.judge.proofs.Onward.{as-long}
-use Rattle.judge.proofs.Tally.{covered-le}
-use Rattle.judge.specs.Rule.{carries}
+use Rattle.rule.proofs.Onward.{as-long}
+use Rattle.rule.proofs.Tally.{covered-le}
+use Rattle.rule.specs.Rule.{carries}
 use Rattle.published.proofs.Sets.{Within, _∈_, each, each-to, all, some, which}
 use Rattle.published.proofs.Slots.{From, from, all-over, each-over}
 use Rattle.published.proofs.Walk.{drawn}

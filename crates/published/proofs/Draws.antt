@@ -9,9 +9,9 @@ use mathlib.Core.Path.{_≡_, refl, sym, ap, subst}
 use lib.IntN.{ℤ}
 use lib.ListN.{length, take}
 use lib.Signed.{_<ℤ_, clashℤ}
-use Rattle.judge.proofs.Loads.{carried-over, carried-under}
-use Rattle.judge.proofs.Plan.{State, out, on, Plan, done, skip, opens, close, more as longer, bridges as bridged, legal→plan}
-use Rattle.judge.specs.Rule.{goesWith, rest, count, carries, legal, windows, covered}
+use Rattle.rule.proofs.Loads.{carried-over, carried-under}
+use Rattle.rule.proofs.Plan.{State, out, on, Plan, done, skip, opens, close, more as longer, bridges as bridged, legal→plan}
+use Rattle.rule.specs.Rule.{goesWith, rest, count, carries, legal, windows, covered}
 use Rattle.published.proofs.Sets.{Within, Apart, each-to}
 use Rattle.published.proofs.Slots.{From, none, more, from, from-drop, unders-over, unders-under}
 use Rattle.published.specs.Published.{Run, Holds, size, Each, Some, sum, Disjoint, load, unders, Window, Obeys, runs}

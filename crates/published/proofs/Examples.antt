@@ -5,7 +5,7 @@ use mathlib.Core.List.{List, [], _∷_, map}
 use mathlib.Core.Path.{refl, sym, subst}
 use lib.IntN.{ℤ, pos}
 use lib.Signed.{ltZ-yes, _<ℤ_}
-use Rattle.judge.specs.Rule.{over, goesWith, agrees, follows, ordered, rest, drawn, count, keeps, every, legalBy, windows, covered}
+use Rattle.rule.specs.Rule.{over, goesWith, agrees, follows, ordered, rest, drawn, count, keeps, every, legalBy, windows, covered}
 use Rattle.published.proofs.Corners.{without-force, focus, weighted}
 use Rattle.published.proofs.Draws.{draws}
 use Rattle.published.proofs.Sets.{_∈_, Within, Apart, each, into, which, meet, fewer}

@@ -10,8 +10,8 @@ use lib.IntN.{ℤ, pos}
 use lib.ListN.{length, take, drop, drop-of-length-le}
 use lib.Seq.{drop-cons}
 use lib.Signed.{_<ℤ_, _≤ℤ_, leZ, leZ-yes, clashℤ}
-use Rattle.judge.proofs.Loads.{side}
-use Rattle.judge.proofs.Rules.{holds, refuted}
+use Rattle.rule.proofs.Loads.{side}
+use Rattle.facts.proofs.Rules.{holds, refuted}
 use Rattle.published.specs.Published.{load, unders}
 
 module _ (X : List ℤ) where

@@ -7,9 +7,9 @@ use mathlib.Core.Logic.{_↔_}
 use mathlib.Core.Path.{_≡_}
 use lib.IntN.{ℤ}
 use Rattle.judge.proofs.Allowing.{Allowed, allowing}
-use Rattle.judge.proofs.Ranges.{by-classes}
+use Rattle.rule.proofs.Ranges.{by-classes}
 use Rattle.judge.specs.Judgment.{allowed}
-use Rattle.judge.specs.declared.settings.Settings.{Settings}
+use Rattle.settings.specs.declared.Settings.{Settings}
 use Rattle.published.proofs.Corners.{recount, focus, springy, weighted, weightedSpringy}
 use Rattle.published.proofs.Draws.{draws}
 use Rattle.published.proofs.Walk.{drawn}

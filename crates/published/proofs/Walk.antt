@@ -10,9 +10,9 @@ use mathlib.Core.Path.{_≡_, refl, sym, ap, ap₂, _∙_, subst}
 use lib.IntN.{ℤ}
 use lib.ListN.{length, take}
 use lib.Signed.{_<ℤ_, _≤ℤ_, clashℤ}
-use Rattle.judge.proofs.Loads.{carry-over, carry-under, side}
-use Rattle.judge.proofs.Plan.{out, on, done, skip, opens, close, more as longer, bridges as bridged, plan→legal}
-use Rattle.judge.specs.Rule.{goesWith, rest, carries, legal, windows, covered}
+use Rattle.rule.proofs.Loads.{carry-over, carry-under, side}
+use Rattle.rule.proofs.Plan.{out, on, done, skip, opens, close, more as longer, bridges as bridged, plan→legal}
+use Rattle.rule.specs.Rule.{goesWith, rest, carries, legal, windows, covered}
 use Rattle.published.proofs.Draws.{Marks, fresh, draws}
 use Rattle.published.proofs.Sets.{Within, _∈_, each, all, some, which, into, meet, sets}
 use Rattle.published.proofs.Slots.{From, none, more, from, from-drop, unders-over, unders-under}

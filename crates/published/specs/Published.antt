@@ -10,9 +10,9 @@ use lib.IntN.{ℤ, pos}
 use lib.ListN.{length, getD, take, drop}
 use lib.Signed.{_<ℤ_, leZ}
 use Rattle.judge.specs.Judgment.{allowed}
-use Rattle.judge.specs.Ranges.{Range, Proper, LegalFor, classOf, allows}
-use Rattle.judge.specs.Rule.{rest, legal, legalBy, windows, covered}
-use Rattle.judge.specs.declared.settings.Settings.{Settings}
+use Rattle.rule.specs.Ranges.{Range, Proper, LegalFor, classOf, allows}
+use Rattle.rule.specs.Rule.{rest, legal, legalBy, windows, covered}
+use Rattle.settings.specs.declared.Settings.{Settings}
 
 -- a sequence of indices, s = [i, i + 1, .., j]
 pub record Run : Type 0 where

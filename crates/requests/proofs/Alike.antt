@@ -8,8 +8,8 @@ use mathlib.Core.Path.{_≡_, refl, sym, ap, _∙_}
 use lib.IntN.{ℤ, pos}
 use lib.Seq.{ext-getD}
 use lib.Signed.{_≤ℤ_, ≤ℤ-refl}
-use Rattle.judge.specs.Rule.{LeastOver}
-use Rattle.judge.specs.declared.settings.CountRange.{CountRange}
+use Rattle.rule.specs.Rule.{LeastOver}
+use Rattle.settings.specs.declared.CountRange.{CountRange}
 use Rattle.requests.proofs.Choices.{in-slots}
 use Rattle.requests.proofs.Integers.{≤ℤ-trans, ≤ℤ-antisym}
 use Rattle.requests.specs.Promise.{Answer, refuses, no-plan, planned, Outcome, Held, Unaltered, Raised, Planned, Answers, Keeps, Alike}

@@ -6,8 +6,8 @@ use mathlib.Core.Path.{_≡_, refl, ap, subst}
 use borrow.Author.Tests.{leb-true}
 use lib.Dec.{leb}
 use lib.ListN.{getD, drop}
-use Rattle.judge.proofs.Ranges.{by-classes}
-use Rattle.judge.proofs.Rules.{both}
+use Rattle.rule.proofs.Ranges.{by-classes}
+use Rattle.facts.proofs.Rules.{both}
 use Rattle.requests.proofs.Keeping.{keeps}
 use Rattle.requests.proofs.Requests.{formed}
 use Rattle.requests.specs.Best.{best, fewest}
@@ -15,9 +15,9 @@ use Rattle.requests.specs.Cases.{Case, cases, Kept}
 use Rattle.requests.specs.Promise.{Outcome, Keeps}
 use Rattle.requests.specs.Request.{Request, ranges, refused, crossed, WellFormed, PlanOf}
 use Rattle.requests.specs.Solution.{classes, possible, loss, outcome}
-use Rattle.judge.specs.Ranges.{classOf, allows}
-use Rattle.judge.specs.Refusals.{first, wrongSlots, wrongOther, wrongLength, wrongBridges, wrongCounts, refusalBy, refusal}
-use Rattle.judge.specs.Rule.{over, goesWith, agrees, follows, ordered, rest, drawn, count, keeps as Rule·keeps, every, legalBy, windows, covered}
+use Rattle.rule.specs.Ranges.{classOf, allows}
+use Rattle.settings.specs.Refusals.{first, wrongSlots, wrongOther, wrongLength, wrongBridges, wrongCounts, refusalBy, refusal}
+use Rattle.rule.specs.Rule.{over, goesWith, agrees, follows, ordered, rest, drawn, count, keeps as Rule·keeps, every, legalBy, windows, covered}
 
 -- marks that are a plan of the request, where there is one
 unfoldable fitting : Request → List ℕ → Bool

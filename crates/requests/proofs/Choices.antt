@@ -6,7 +6,7 @@ use mathlib.Core.Path.{_≡_, refl, sym, ap, _∙_, subst}
 use lib.IntN.{ℤ}
 use lib.ListN.{length, set}
 use lib.Signed.{_≤ℤ_, ≤ℤ-refl}
-use Rattle.judge.specs.Ranges.{Range, Proper, ChosenIn, Class, classOf}
+use Rattle.rule.specs.Ranges.{Range, Proper, ChosenIn, Class, classOf}
 use Rattle.requests.proofs.Integers.{≤ℤ-trans, ≤ℤ-antisym}
 use Rattle.requests.specs.Request.{range, paired, at}
 

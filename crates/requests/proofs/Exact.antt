@@ -5,10 +5,10 @@ use native.Mathlib.Omega.{arith, min-cases}
 use mathlib.Core.Bool.{Bool, true, false, cond, false≢true}
 use mathlib.Core.List.{List, [], _∷_}
 use mathlib.Core.Path.{_≡_, refl}
-use Rattle.judge.proofs.Rules.{at-most}
-use Rattle.judge.proofs.Plan.{State, out, on, Plan, done, skip, opens, close, more, bridges, legal→plan, plan→legal}
-use Rattle.judge.specs.Ranges.{Class, under-only, over-only, either, allows}
-use Rattle.judge.specs.Rule.{goesWith, count, legalBy, windows, covered}
+use Rattle.facts.proofs.Rules.{at-most}
+use Rattle.rule.proofs.Plan.{State, out, on, Plan, done, skip, opens, close, more, bridges, legal→plan, plan→legal}
+use Rattle.rule.specs.Ranges.{Class, under-only, over-only, either, allows}
+use Rattle.rule.specs.Rule.{goesWith, count, legalBy, windows, covered}
 use Rattle.requests.specs.Best.{spend, dearer, best, onward, after}
 
 module _ (room h : ℕ) where

@@ -7,7 +7,7 @@ use mathlib.Core.Path.{_≡_, ap}
 use lib.Dec.{T, leb→le, le→leb, ltb→lt, lt→ltb}
 use lib.IntN.{ℤ, pos, negsuc, sucℤ}
 use lib.Signed.{ltZ, leZ, _<ℤ_, _≤ℤ_, leZ-yes, ltZ-yes, <ℤ-≤ℤ-trans, clashℤ}
-use Rattle.judge.proofs.Loads.{side}
+use Rattle.rule.proofs.Loads.{side}
 
 pub ≤ℤ-trans : {a b c : ℤ} → a ≤ℤ b → b ≤ℤ c → a ≤ℤ c
 ≤ℤ-trans {a} {c = c} p q = ⊎-elim (λ l. clashℤ (<ℤ-≤ℤ-trans l p) q) (λ e. e) (side c a)

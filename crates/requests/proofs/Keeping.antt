@@ -9,11 +9,11 @@ use borrow.Author.Tests.{leb-true}
 use lib.IntN.{ℤ}
 use lib.ListN.{length}
 use Rattle.judge.proofs.Allowing.{allowing, saying}
-use Rattle.judge.proofs.Onward.{as-long}
-use Rattle.judge.proofs.Passing.{Passing, passing, beside}
-use Rattle.judge.specs.Ranges.{Class}
-use Rattle.judge.specs.Rule.{carries, legal, windows, covered, LeastOver}
-use Rattle.judge.specs.declared.settings.Settings.{Settings}
+use Rattle.rule.proofs.Onward.{as-long}
+use Rattle.settings.proofs.Passing.{Passing, passing, beside}
+use Rattle.rule.specs.Ranges.{Class}
+use Rattle.rule.specs.Rule.{carries, legal, windows, covered, LeastOver}
+use Rattle.settings.specs.declared.Settings.{Settings}
 use Rattle.requests.proofs.Choices.{from-slots}
 use Rattle.requests.proofs.Least.{least-windows, least-covered}
 use Rattle.requests.proofs.Narrowing.{along-length, along-at, stays, exact}

@@ -8,8 +8,8 @@ use mathlib.Core.Logic.{⊎-elim}
 use mathlib.Core.Path.{_≡_, refl, sym, subst}
 use borrow.Author.Tests.{leb-true, leb-false}
 use lib.Dec.{leb}
-use Rattle.judge.specs.Ranges.{Class, allows}
-use Rattle.judge.specs.Rule.{legalBy, windows, covered, LeastOver}
+use Rattle.rule.specs.Ranges.{Class, allows}
+use Rattle.rule.specs.Rule.{legalBy, windows, covered, LeastOver}
 use Rattle.requests.proofs.Exact.{Fits, at-least, met}
 use Rattle.requests.specs.Best.{best, fewest}
 

@@ -5,10 +5,10 @@ use mathlib.Core.List.{List}
 use mathlib.Core.Path.{_≡_, sym, _∙_, subst}
 use mathlib.Core.Bool.{true}
 use lib.IntN.{ℤ}
-use Rattle.judge.proofs.Loosening.{loosened}
-use Rattle.judge.specs.Ranges.{ChosenIn}
-use Rattle.judge.specs.Rule.{carries, legal, windows, covered, LeastOver}
-use Rattle.judge.specs.declared.settings.CountRange.{CountRange}
+use Rattle.rule.proofs.Loosening.{loosened}
+use Rattle.rule.specs.Ranges.{ChosenIn}
+use Rattle.rule.specs.Rule.{carries, legal, windows, covered, LeastOver}
+use Rattle.settings.specs.declared.CountRange.{CountRange}
 use Rattle.requests.proofs.Choices.{in-slots, from-slots}
 use Rattle.requests.proofs.Integers.{≤ℤ-trans}
 use Rattle.requests.proofs.Outcomes.{planned-so, planned-where}

@@ -4,7 +4,7 @@ use mathlib.Core.List.{List}
 use mathlib.Core.Logic.{_↔_, _⊎_, inl, inr}
 use mathlib.Core.Option.{some, Option·some-ne-none, Option·some-injective}
 use mathlib.Core.Path.{_≡_, refl, sym, ap, _∙_, subst}
-use Rattle.judge.specs.declared.settings.CountRange.{CountRange}
+use Rattle.settings.specs.declared.CountRange.{CountRange}
 use Rattle.requests.proofs.Keeping.{answered}
 use Rattle.requests.specs.Promise.{Answer, refuses, no-plan, planned, Outcome, Planned, NoPlan, Answers, Keeps}
 use Rattle.requests.specs.Request.{Request, Refused, refused, WellFormed, PlanOf, LeastWindows, LeastCovered}

@@ -8,12 +8,12 @@ use lib.IntN.{ℤ, pos, sucℤ}
 use lib.ListN.{length, set, length-set}
 use lib.Seq.{set-getD}
 use lib.Signed.{≤ℤ-refl}
-use Rattle.judge.proofs.Loads.{lt→over, le→under}
-use Rattle.judge.proofs.Onward.{as-long}
-use Rattle.judge.proofs.Passing.{Passing, beside}
-use Rattle.judge.proofs.Tally.{windows-le}
-use Rattle.judge.specs.Ranges.{under-only, over-only, classOf}
-use Rattle.judge.specs.Rule.{carries, windows, covered, LeastOver}
+use Rattle.rule.proofs.Loads.{lt→over, le→under}
+use Rattle.rule.proofs.Onward.{as-long}
+use Rattle.settings.proofs.Passing.{Passing, beside}
+use Rattle.rule.proofs.Tally.{windows-le}
+use Rattle.rule.specs.Ranges.{under-only, over-only, classOf}
+use Rattle.rule.specs.Rule.{carries, windows, covered, LeastOver}
 use Rattle.requests.proofs.Choices.{paired-set, replaced-proper, replaced-class}
 use Rattle.requests.proofs.Integers.{lt→suc-le, le→lt-suc}
 use Rattle.requests.proofs.Outcomes.{planned-so, none-so, planned-where}

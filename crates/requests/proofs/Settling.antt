@@ -6,11 +6,11 @@ use mathlib.Core.Bool.{Bool, true}
 use mathlib.Core.List.{List, [], _∷_}
 use mathlib.Core.Path.{_≡_, refl}
 use lib.ListN.{length, set, length-set}
-use Rattle.judge.proofs.Onward.{as-long}
-use Rattle.judge.proofs.Plan.{State, out, on, done, skip, opens, close, more, bridges, legal→plan, plan→legal}
-use Rattle.judge.proofs.Tally.{covered-le}
-use Rattle.judge.specs.Ranges.{Class, under-only, over-only, either, allows}
-use Rattle.judge.specs.Rule.{goesWith, count, windows, covered}
+use Rattle.rule.proofs.Onward.{as-long}
+use Rattle.rule.proofs.Plan.{State, out, on, done, skip, opens, close, more, bridges, legal→plan, plan→legal}
+use Rattle.rule.proofs.Tally.{covered-le}
+use Rattle.rule.specs.Ranges.{Class, under-only, over-only, either, allows}
+use Rattle.rule.specs.Rule.{goesWith, count, windows, covered}
 use Rattle.requests.proofs.Exact.{Marks, Found, Fits}
 
 -- a slot that may be over may open a window, and one that may be a bridge may be uncovered

@@ -1,5 +1,5 @@
--- Least covered counts by recursion on the slots. What private functions are to promise: the filter's promise does not rest on it
--- (proofs/Exact.antt has the two theorems that say what it is).
+-- Least covered counts by recursion on the slots. The functions of the crate least promise them; the filter's promise does not rest
+-- on them (proofs/Exact.antt has the two theorems that say what they are).
 --
 -- A slot is given by its class. A window has a first slot and at most `room` more, with at most h bridges. T stands for "no plan":
 -- counts are capped there.
@@ -7,7 +7,7 @@ use Prim.Native.Nat.{ℕ, zero, suc, min}
 use mathlib.Core.Bool.{cond}
 use mathlib.Core.List.{List, [], _∷_}
 use lib.Dec.{leb}
-use Rattle.judge.specs.Ranges.{Class, allows}
+use Rattle.rule.specs.Ranges.{Class, allows}
 
 -- one of n is used up, or there is none to use
 abbrev pub spend : (T n : ℕ) → (ℕ → ℕ) → ℕ

@@ -5,8 +5,8 @@ use mathlib.Core.List.{List}
 use mathlib.Core.Path.{_≡_}
 use lib.IntN.{ℤ}
 use lib.Signed.{_≤ℤ_}
-use Rattle.judge.specs.Rule.{windows, LeastOver}
-use Rattle.judge.specs.declared.settings.CountRange.{CountRange}
+use Rattle.rule.specs.Rule.{windows, LeastOver}
+use Rattle.settings.specs.declared.CountRange.{CountRange}
 use Rattle.requests.specs.Promise.{no-plan, planned, Outcome, Held, Keeps}
 use Rattle.requests.specs.Request.{Request, slots, at, WellFormed, PlanOf, UnlimitedPlanOf, LeftAt, LeastWindows, LeastCovered}
 use Rattle.requests.specs.Request.{Open, settledUnder, settledOver}

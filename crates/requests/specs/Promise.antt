@@ -9,9 +9,9 @@ use lib.IntN.{ℤ, sucℤ}
 use lib.ListN.{length}
 use lib.Signed.{ltZ, _≤ℤ_}
 use Rattle.judge.specs.Judgment.{says, judgment}
-use Rattle.judge.specs.Ranges.{ChosenIn}
-use Rattle.judge.specs.Rule.{windows, covered, LeastOver}
-use Rattle.judge.specs.declared.settings.CountRange.{CountRange}
+use Rattle.rule.specs.Ranges.{ChosenIn}
+use Rattle.rule.specs.Rule.{windows, covered, LeastOver}
+use Rattle.settings.specs.declared.CountRange.{CountRange}
 use Rattle.requests.specs.Request.{Request, slots, paired, at, Refused, refused, WellFormed, PlanOf, LeftAt}
 
 pub data Answer : Type 0 where

@@ -7,10 +7,10 @@ use mathlib.Core.Path.{_≡_}
 use lib.IntN.{ℤ, pos, sucℤ}
 use lib.ListN.{length, getD, set}
 use lib.Signed.{ltZ, _<ℤ_, _≤ℤ_}
-use Rattle.judge.specs.Ranges.{Range, ChosenIn, LegalFor}
-use Rattle.judge.specs.Refusals.{refusal}
-use Rattle.judge.specs.Rule.{legal, windows, covered, LeastOver}
-use Rattle.judge.specs.declared.settings.Settings.{Settings}
+use Rattle.rule.specs.Ranges.{Range, ChosenIn, LegalFor}
+use Rattle.settings.specs.Refusals.{refusal}
+use Rattle.rule.specs.Rule.{legal, windows, covered, LeastOver}
+use Rattle.settings.specs.declared.Settings.{Settings}
 
 -- what the filter is given: the settings and what the three lent slices hold. What the marks hold plays no part
 pub record Request : Type 0 where
@@ -18,6 +18,9 @@ pub record Request : Type 0 where
   pub lowest : List ℤ
   pub highest : List ℤ
   pub marks : List ℕ
+
+abbrev pub asked : Settings → (lowest highest : List ℤ) (marks : List ℕ) → Request
+asked s los his ms = record { settings = s; lowest = los; highest = his; marks = ms }
 
 -- the number of slots, the load ranges, and the two ends of slot i's
 abbrev pub slots : Request → ℕ

@@ -1,5 +1,5 @@
--- What the filter hands back for a plan of its choice, computed by `best`. What private functions are to promise: the filter's
--- promise does not rest on it (proofs/Keeping.antt says that it is kept).
+-- What the filter hands back for a plan of its choice, computed by `best`. The crate least and private functions of the filter
+-- promise it; the filter's promise does not rest on it (proofs/Keeping.antt says that it is kept).
 use Prim.Native.Nat.{ℕ, suc, _-_, max}
 use mathlib.Core.Bool.{Bool, true, false, cond}
 use mathlib.Core.List.{List, [], _∷_, map}
@@ -7,9 +7,9 @@ use mathlib.Core.Option.{Option, none, some}
 use lib.Dec.{leb}
 use lib.IntN.{ℤ}
 use lib.ListN.{getD, set}
-use Rattle.judge.specs.Ranges.{Class, under-only, over-only, either, classOf}
-use Rattle.judge.specs.declared.settings.CountRange.{CountRange}
-use Rattle.judge.specs.declared.settings.Settings.{Settings}
+use Rattle.rule.specs.Ranges.{Class, under-only, over-only, either, classOf}
+use Rattle.settings.specs.declared.CountRange.{CountRange}
+use Rattle.settings.specs.declared.Settings.{Settings}
 use Rattle.requests.specs.Best.{best, fewest}
 use Rattle.requests.specs.Promise.{Answer, refuses, no-plan, planned, Outcome, Loss, nothing, under-part, over-part, lowestAfter, highestAfter}
 use Rattle.requests.specs.Request.{Request, ranges, Refused, refused}

@@ -10,13 +10,13 @@ use mathlib.Core.Path.{_≡_, refl}
 use lib.Dec.{eqb, eqb·suc-zero}
 use lib.IntN.{ℤ}
 use lib.Signed.{_<ℤ_, _≤ℤ_}
-use Rattle.judge.proofs.Loads.{side, lt→over, le→under, carried-over, carried-under, carry-over, carry-under}
-use Rattle.judge.proofs.Plan.{State, out, on, Plan, done, skip, opens, close, more, bridges, legal→plan, plan→legal}
-use Rattle.judge.specs.Rule.{over, goesWith, carries, count, windows}
+use Rattle.rule.proofs.Loads.{side, lt→over, le→under, carried-over, carried-under, carry-over, carry-under}
+use Rattle.rule.proofs.Plan.{State, out, on, Plan, done, skip, opens, close, more, bridges, legal→plan, plan→legal}
+use Rattle.rule.specs.Rule.{over, goesWith, carries, count, windows}
 use Rattle.watch.proofs.Reaching.{settled}
 use Rattle.watch.specs.Promise.{Least, CaseL}
 use Rattle.watch.specs.States.{begun, afterOver, afterUnder, after, led}
-use Rattle.watch.specs.declared.start.Watch.{Watch}
+use Rattle.watch.specs.declared.Watch.{Watch}
 
 -- of r slots and b bridges left to a window, the slots left behind an under load
 abbrev left : (r b : ℕ) → ℕ

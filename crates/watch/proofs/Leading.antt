@@ -10,10 +10,10 @@ use lib.IntN.{ℤ}
 use lib.ListN.{length, length-append}
 use mir.Syntax.{w32}
 use mir.Val.{SFits}
-use Rattle.judge.proofs.Rules.{either-way}
-use Rattle.judge.specs.Rule.{over}
+use Rattle.facts.proofs.Rules.{either-way}
+use Rattle.rule.specs.Rule.{over}
 use Rattle.watch.specs.States.{begun, moved, afterOver, afterUnder, after, led, most, Loads, Leads}
-use Rattle.watch.specs.declared.start.Watch.{Watch}
+use Rattle.watch.specs.declared.Watch.{Watch}
 
 -- one load behind others
 pub led-behind : (w : Watch) (loads : List ℤ) (x : ℤ) → led w (loads ++ x ∷ []) ≡ after (led w loads) x

@@ -13,13 +13,13 @@ use lib.IntN.{ℤ}
 use lib.Signed.{≤ℤ-refl}
 use mir.Syntax.{w32}
 use mir.Val.{SFits}
-use Rattle.judge.proofs.Loads.{le→under}
-use Rattle.judge.specs.Rule.{over}
+use Rattle.rule.proofs.Loads.{le→under}
+use Rattle.rule.specs.Rule.{over}
 use Rattle.watch.proofs.Leading.{taken-is, leads-on, opens, goes-on, ends, bridges, behind-over, behind-under}
 use Rattle.watch.proofs.Reaching.{settled, and-last, threshold}
 use Rattle.watch.specs.States.{begun, after, led, Leads, Reached}
 use Rattle.watch.specs.Tested.{highest, shortest, Idle, Alive, Sound}
-use Rattle.watch.specs.declared.start.Watch.{Watch}
+use Rattle.watch.specs.declared.Watch.{Watch}
 
 -- a state with the settings of another
 abbrev with : Watch → (taken windows room spare : ℕ) → Watch

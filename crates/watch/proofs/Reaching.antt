@@ -14,14 +14,14 @@ use lib.ListN.{length}
 use lib.Signed.{_≤ℤ_, leZ-yes}
 use mir.Syntax.{w32}
 use mir.Val.{SFits}
-use Rattle.judge.proofs.Loads.{rise}
-use Rattle.judge.proofs.Passing.{clear, sized}
-use Rattle.judge.specs.Refusals.{wrongLength, wrongBridges, limit}
-use Rattle.judge.specs.Rule.{over}
+use Rattle.rule.proofs.Loads.{rise}
+use Rattle.settings.proofs.Passing.{clear, sized}
+use Rattle.settings.specs.Refusals.{wrongLength, wrongBridges, limit}
+use Rattle.rule.specs.Rule.{over}
 use Rattle.watch.proofs.Leading.{after-taken, opens, goes-on, ends, bridges, behind-over, behind-under}
 use Rattle.watch.specs.States.{startRefusal, begun, moved, after, led, most, Loads, Reached}
 use Rattle.watch.specs.Tested.{highest, shortest, Idle, Alive, Sound}
-use Rattle.watch.specs.declared.start.Watch.{Watch}
+use Rattle.watch.specs.declared.Watch.{Watch}
 
 few-bridges : (len h : ℕ) → wrongBridges h len ≡ false → 2 ≤ len → h + 2 ≤ len
 unfolding wrongBridges

@@ -7,9 +7,9 @@ use mathlib.Core.Option.{Option, none, some}
 use mathlib.Core.Path.{_≡_, ap, subst}
 use lib.IntN.{ℤ, pos}
 use lib.ListN.{length, drop, getD, drop-of-length-le}
-use Rattle.judge.proofs.Rules.{uncons}
+use Rattle.facts.proofs.Rules.{uncons}
 use Rattle.watch.specs.Promise.{number, told, Steps, Runs, done, stops, goes-on}
-use Rattle.watch.specs.declared.start.Watch.{Watch}
+use Rattle.watch.specs.declared.Watch.{Watch}
 use Rattle.watch.specs.declared.step.Answer.the-variants.{Taken, Refused}
 use Rattle.watch.specs.declared.step.Refusal.{Refusal}
 use Rattle.watch.specs.declared.step.Stepped.{Stepped}

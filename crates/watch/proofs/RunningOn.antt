@@ -13,7 +13,7 @@ use Rattle.watch.proofs.Leading.{taken-is}
 use Rattle.watch.proofs.Stepping.{code, differ}
 use Rattle.watch.specs.Promise.{takes, refuses-with, told, Steps, done, stops, goes-on, RunsFrom}
 use Rattle.watch.specs.States.{most, Leads}
-use Rattle.watch.specs.declared.start.Watch.{Watch}
+use Rattle.watch.specs.declared.Watch.{Watch}
 use Rattle.watch.specs.declared.step.Stepped.{Stepped}
 
 -- what a step from such a state answers, at the limit and below it

@@ -1,16 +1,19 @@
 -- Which answer the rows of a start lead to, and that they are those of a plan of the most slots without counts.
 use Prim.Native.Nat.{ℕ}
 use mathlib.Core.Bool.{false}
-use mathlib.Core.Path.{_≡_, refl}
+use mathlib.Core.Logic.{_↔_}
+use mathlib.Core.Option.{Option, none, some}
+use mathlib.Core.Path.{_≡_, refl, ap}
 use lib.IntN.{ℤ}
-use Rattle.judge.specs.Refusals.{number, checked, limit, first, wrongSlots, wrongCounts, refusalBy}
-use Rattle.judge.specs.declared.settings.Checked.{Checked}
-use Rattle.judge.specs.declared.settings.Checked.the-variants.{Passed, Refused}
-use Rattle.judge.specs.declared.settings.CountRange.{CountRange}
-use Rattle.judge.specs.declared.settings.Refusal.{Refusal}
-use Rattle.judge.specs.declared.settings.Settings.{Settings}
-use Rattle.watch.specs.Promise.{watches, refuses, starting}
+use Rattle.settings.specs.Refusals.{number, checked, limit, first, wrongSlots, wrongCounts, refusalBy}
+use Rattle.settings.specs.declared.Checked.{Checked}
+use Rattle.settings.specs.declared.Checked.the-variants.{Passed, Refused}
+use Rattle.settings.specs.declared.CountRange.{CountRange}
+use Rattle.settings.specs.declared.Refusal.{Refusal}
+use Rattle.settings.specs.declared.Settings.{Settings}
+use Rattle.watch.specs.Promise.{Start, watches, refuses, unless, starting}
 use Rattle.watch.specs.States.{startRefusal, begun}
+use Rattle.watch.specs.declared.Watch.{Watch}
 
 abbrev none-asked : CountRange
 none-asked = record { least = 0; most = 0 }
@@ -31,3 +34,16 @@ module _ (k : ℤ) (len h : ℕ) where
     pub accepted : r ≡ Passed → watches (begun k len h) ≡ starting k len h
     unfolding starting
     accepted e = rw (← is, e)
+
+abbrev number? : Start → Option ℕ
+number? (watches w) = none
+number? (refuses n) = some n
+
+-- a start is refused with the number that is given, and in no other situation
+pub refusing : (k : ℤ) (len h n : ℕ) → (starting k len h ≡ refuses n) ↔ (startRefusal len h ≡ some n)
+unfolding starting
+refusing k len h n = ((λ e. to (startRefusal len h) (ap number? e)), λ e. rw e)
+  where
+    to : (o : Option ℕ) → number? (unless o (begun k len h)) ≡ some n → o ≡ some n
+    to none e = e
+    to (some m) e = e

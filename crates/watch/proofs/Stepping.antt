@@ -1,6 +1,7 @@
 -- What a step gives, by what its tests said: each of the three ways through `step` keeps its promise.
 use Prim.Native.Nat.{ℕ, suc, _<_}
 use native.Mathlib.Omega.{arith}
+use mathlib.Core.Logic.{_⊎_, inl, inr}
 use mathlib.Core.Path.{_≡_, sym, _∙_, ap, subst}
 use lib.IntN.{ℤ}
 use mir.Syntax.{w32}
@@ -8,7 +9,8 @@ use mir.Val.{SFits}
 use Rattle.watch.proofs.Leading.{taken-is, leads-on}
 use Rattle.watch.specs.Promise.{Step, takes, refuses-with, told, opened, Steps}
 use Rattle.watch.specs.States.{after, most, Leads, Reached}
-use Rattle.watch.specs.declared.start.Watch.{Watch}
+use Rattle.watch.specs.declared.Watch.{Watch}
+use Rattle.watch.specs.declared.step.Answer.{Answer}
 use Rattle.watch.specs.declared.step.Answer.the-variants.{Taken, Refused}
 use Rattle.watch.specs.declared.step.Refusal.the-variants.{Unreached, Full}
 use Rattle.watch.specs.declared.step.Stepped.{Stepped}
@@ -20,6 +22,12 @@ code (refuses-with n) = suc n
 
 pub differ : {s t v : Step} → (code s ≡ code t → ⊥) → v ≡ s → v ≡ t → ⊥
 differ f is e = f (ap code (sym is ∙ e))
+
+-- a refusal of a step is 32 or 33
+pub two-numbers : (a : Answer) (n : ℕ) → told a ≡ refuses-with n → (n ≡ 32) ⊎ (n ≡ 33)
+two-numbers (Taken opened) n e = let c = ap code e in absurd (omega (arith, c))
+two-numbers (Refused Unreached) n e = let c = ap code e in inl (omega (arith, c))
+two-numbers (Refused Full) n e = let c = ap code e in inr (omega (arith, c))
 
 module _ (w : Watch) (load : ℤ) (r : Stepped) where
   pub refuses-32 : (Reached w → ⊥) → r .watch ≡ w → r .answer ≡ Refused Unreached → Steps w load r

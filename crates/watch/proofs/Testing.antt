@@ -10,13 +10,13 @@ use borrow.Author.Tests.{le-leb, leb-true}
 use lib.Dec.{leb}
 use mir.Syntax.{w32}
 use mir.Val.{SFits}
-use Rattle.judge.specs.Refusals.{limit}
-use Rattle.judge.specs.Rule.{over}
+use Rattle.settings.specs.Refusals.{limit}
+use Rattle.rule.specs.Rule.{over}
 use Rattle.watch.proofs.Origins.{sound→reached}
 use Rattle.watch.proofs.Reaching.{settled, reached→sound}
 use Rattle.watch.specs.States.{startRefusal, most, Reached}
 use Rattle.watch.specs.Tested.{highest, shortest, Tallied, Idle, Alive, Sound, Ready}
-use Rattle.watch.specs.declared.start.Watch.{Watch}
+use Rattle.watch.specs.declared.Watch.{Watch}
 
 pub no : {P : Type 0} → (P → ⊥) → (false ≡ true) ↔ P
 no f = (λ e. absurd (false≢true e), λ p. absurd (f p))

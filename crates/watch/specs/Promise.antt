@@ -8,14 +8,14 @@ use mathlib.Core.Path.{_≡_}
 use lib.Dec.{ltb}
 use lib.IntN.{ℤ, pos}
 use lib.ListN.{length, take}
-use Rattle.judge.specs.Refusals.{number as judge·number}
-use Rattle.judge.specs.Rule.{legal, windows, LeastOver}
+use Rattle.settings.specs.Refusals.{number as judge·number}
+use Rattle.rule.specs.Rule.{legal, windows, LeastOver}
 use Rattle.watch.specs.States.{startRefusal, begun, led, most, Leads, Reached}
 use Rattle.watch.specs.declared.run.Ended.{Ended}
 use Rattle.watch.specs.declared.run.Ended.the-variants.{All, Stopped}
 use Rattle.watch.specs.declared.start.Started.{Started}
 use Rattle.watch.specs.declared.start.Started.the-variants.{Watching, Refused as start·Refused}
-use Rattle.watch.specs.declared.start.Watch.{Watch}
+use Rattle.watch.specs.declared.Watch.{Watch}
 use Rattle.watch.specs.declared.step.Answer.{Answer}
 use Rattle.watch.specs.declared.step.Answer.the-variants.{Taken, Refused}
 use Rattle.watch.specs.declared.step.Refusal.{Refusal}

@@ -9,9 +9,9 @@ use lib.IntN.{ℤ}
 use lib.ListN.{length}
 use mir.Syntax.{w32}
 use mir.Val.{SFits}
-use Rattle.judge.specs.Refusals.{row, first, limit, wrongLength, wrongBridges}
-use Rattle.judge.specs.Rule.{over}
-use Rattle.watch.specs.declared.start.Watch.{Watch}
+use Rattle.settings.specs.Refusals.{row, first, limit, wrongLength, wrongBridges}
+use Rattle.rule.specs.Rule.{over}
+use Rattle.watch.specs.declared.Watch.{Watch}
 
 -- "Where each refusal is checked", the watch's rows of the settings: 23 with the limit in place of n, and 24
 unfoldable pub startRefusal : (len h : ℕ) → Option ℕ

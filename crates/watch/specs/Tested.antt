@@ -6,9 +6,9 @@ use mathlib.Core.Logic.{_⊎_}
 use mathlib.Core.Option.{none}
 use mathlib.Core.Path.{_≡_}
 use lib.IntN.{ℤ, pos}
-use Rattle.judge.specs.Rule.{over}
+use Rattle.rule.specs.Rule.{over}
 use Rattle.watch.specs.States.{startRefusal, most}
-use Rattle.watch.specs.declared.start.Watch.{Watch}
+use Rattle.watch.specs.declared.Watch.{Watch}
 
 -- the highest load: with it as the threshold no load is over, and no window opens
 abbrev pub highest : ℤ

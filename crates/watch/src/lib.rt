@@ -8,7 +8,19 @@ mod step;
 pub use run::Ended;
 pub use run::Ran;
 pub use start::Started;
-pub use start::Watch;
 pub use step::Answer;
 pub use step::Refusal;
 pub use step::Stepped;
+
+// The settings, how many slots were taken and how many windows opened, and what is left to the living window, the one that the
+// next slot may still lie in: room for slots, and bridges to spare. Both are 0 when none is alive.
+#[repr(C)]
+pub struct Watch {
+    pub k: i32,
+    pub len: u16,
+    pub h: u16,
+    pub taken: u32,
+    pub windows: u32,
+    pub room: u16,
+    pub spare: u16,
+}

@@ -3,14 +3,15 @@ ghost use mathlib.Core.Path.{_≡_};
 ghost use mathlib.Core.Bool.{true};
 ghost use mathlib.Core.Logic.{_⊎_, _↔_};
 ghost use mathlib.Core.Option.{none};
-ghost use Prim.Native.Nat.{_≤_};
-ghost use Rattle.judge.specs.Rule.{over};
-ghost use Rattle.watch.specs.States.{startRefusal, Reached};
+ghost use Prim.Native.Nat.{_+_, _*_, _≤_, _<_};
+ghost use Rattle.settings.specs.Refusals.{limit};
+ghost use Rattle.rule.specs.Rule.{over as Rule·over};
+ghost use Rattle.watch.specs.States.{startRefusal, most, Reached};
 ghost use Rattle.watch.specs.Tested.{highest, shortest as Tested·shortest, Tallied, Idle, Alive};
-use crate::start::Watch;
+use crate::Watch;
 use crate::start::check_settings;
-use crate::step::is_over;
-use judge::Checked;
+use rule::over;
+use settings::Checked;
 
 // The most slots that a watch takes.
 pub(crate) const MOST: u32 = 1000000;
@@ -43,12 +44,12 @@ impl Watch {
 
     // A window opens at an over load.
     fn may_open(self) -> bool
-        ensures { λ r. ⌜ (r ≡ true) ↔ ((self .windows ≡ 0) ⊎ (over (self .k) highest ≡ true)) ⌝ }
+        ensures { λ r. ⌜ (r ≡ true) ↔ ((self .windows ≡ 0) ⊎ (Rule·over (self .k) highest ≡ true)) ⌝ }
     {
         if self.windows == 0 {
             return true;
         }
-        is_over(self.k, HIGHEST)
+        over(self.k, HIGHEST)
     }
 
     // No window is alive, and the slots taken are enough for each.
@@ -76,12 +77,13 @@ impl Watch {
         if self.spare > self.h {
             return false;
         }
-        let slots = self.len - self.room;
-        let bridges = self.h - self.spare;
-        if bridges >= slots {
-            return false;
-        }
-        (self.windows - 1) * self.shortest() + slots as u32 <= self.taken
+        let before = (self.windows - 1) * self.shortest();
+        fits(
+            self.len - self.room,
+            self.h - self.spare,
+            before,
+            self.taken,
+        )
     }
 
     // The least number of slots from a window's opening to the next one's.
@@ -91,4 +93,16 @@ impl Watch {
     {
         if self.len == 1 { 1 } else { self.h as u32 + 2 }
     }
+}
+
+// Whether a window with so many slots and bridges so far began with an over slot, and the slots taken are enough for it behind
+// those of the windows before it.
+fn fits(slots: u16, bridges: u16, before: u32, taken: u32) -> bool
+    requires { ⌜ before ≤ most * limit ⌝ }
+    ensures { λ r. ⌜ (r ≡ true) ↔ ((bridges < slots) × (before + slots ≤ taken)) ⌝ }
+{
+    if bridges >= slots {
+        return false;
+    }
+    before + slots as u32 <= taken
 }

@@ -1,6 +1,6 @@
 // Many loads.
 ghost use Rattle.watch.specs.Promise.{Runs, refusal};
-use crate::start::Watch;
+use crate::Watch;
 use crate::step::Answer;
 use crate::step::Refusal;
 

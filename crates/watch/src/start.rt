@@ -1,27 +1,15 @@
-// A watch, and its start.
+// The start of a watch.
 ghost use mathlib.Core.Path.{_≡_};
-ghost use Rattle.judge.specs.Refusals.{checked};
+ghost use Rattle.settings.specs.Refusals.{checked};
 ghost use Rattle.watch.specs.States.{startRefusal};
 ghost use Rattle.watch.specs.Promise.{started, starting};
-use judge::Checked;
-use judge::CountRange;
-use judge::LIMIT;
-use judge::Refusal;
-use judge::Settings;
-use judge::check;
-
-// The settings, how many slots were taken and how many windows opened, and what is left to the living window, the one that the
-// next slot may still lie in: room for slots, and bridges to spare. Both are 0 when none is alive.
-#[repr(C)]
-pub struct Watch {
-    pub k: i32,
-    pub len: u16,
-    pub h: u16,
-    pub taken: u32,
-    pub windows: u32,
-    pub room: u16,
-    pub spare: u16,
-}
+use crate::Watch;
+use settings::Checked;
+use settings::CountRange;
+use settings::LIMIT;
+use settings::Refusal;
+use settings::Settings;
+use settings::check;
 
 // What a start gives.
 pub enum Started {

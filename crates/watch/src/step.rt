@@ -1,13 +1,13 @@
 // One load more.
 ghost use mathlib.Core.Path.{_≡_};
 ghost use Prim.Native.Nat.{_<_};
-ghost use Rattle.judge.specs.Rule.{over};
 ghost use Rattle.watch.specs.States.{most, moved as States·moved, afterOver, afterUnder, after as States·after};
 ghost use Rattle.watch.specs.Tested.{Ready};
 ghost use Rattle.watch.specs.declared.step.Answer.the-variants.{Refused};
 ghost use Rattle.watch.specs.Promise.{number as Promise·number, Steps};
+use crate::Watch;
 use crate::reached::MOST;
-use crate::start::Watch;
+use rule::over;
 
 // Why a step is refused: 32, then 33.
 pub enum Refusal {
@@ -64,7 +64,7 @@ impl Watch {
         requires { ⌜ Ready self ⌝ }
         ensures { λ r. ⌜ r ≡ States·after self load ⌝ }
     {
-        if is_over(self.k, load) {
+        if over(self.k, load) {
             return self.after_over();
         }
         self.after_under()
@@ -107,12 +107,6 @@ impl Watch {
             spare: if room == 0 { 0 } else { spare },
         }
     }
-}
-
-pub(crate) fn is_over(k: i32, load: i32) -> bool
-    ensures { λ r. ⌜ r ≡ over k load ⌝ }
-{
-    load > k
 }
 
 fn refused(watch: Watch, refusal: Refusal) -> Stepped

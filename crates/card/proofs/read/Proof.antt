@@ -1,66 +1,66 @@
 -- `card::read` meets its contract: the rows are met in their order (`Answering`), and a whole file has all records.
 use native.Mathlib.Omega.{arith}
 use mathlib.Core.Option.{none}
-use mathlib.Core.Path.{_≡_, refl}
+use mathlib.Core.Path.{_≡_, refl, sym, ap, _∙_}
 use borrow.Author.Needs.{needs}
 use borrow.Author.Tests.{lt-ltb, le-ltb}
 use lib.Dec.{ltb}
 use lib.ListN.{length}
-use Rattle.judge.proofs.Rules.{or-true}
-use Rattle.judge.specs.Refusals.{first}
-use Rattle.card.proofs.Answering.{met, refuses-early, refuses-last, gives-asked, nothing-altered, records-put}
-use Rattle.card.proofs.Passing.{whole}
-use Rattle.card.specs.Form1.{fileRows}
-use Rattle.card.specs.Reading.{checked, lentTooShort, reads}
+use Rattle.facts.proofs.Rules.{or-true}
+use Rattle.settings.specs.Refusals.{first}
+use Rattle.form1.proofs.Opening.{rows-refuse, rows-pass}
+use Rattle.form1.proofs.Passing.{whole}
+use Rattle.form1.specs.Form1.{fileRows}
+use Rattle.form1.specs.Opening.{gives, contents}
+use Rattle.card.proofs.Answering.{refuses-early, refuses-last, gives-asked, nothing-altered, records-put}
+use Rattle.card.specs.Reading.{lentTooShort, reads}
 use Rattle.card.proofs.read.Statement.{statement}
 use Rattle.card.proofs.read.Tie as tie
 
-check-requires : tie.Need-check-requires
-check-requires c κs = search needs
+open-requires : tie.Need-open-requires
+open-requires c κs = search needs
 
-enum-known-checked : tie.Need-enum-known-checked
-enum-known-checked c = search needs
+enum-known-refusal : tie.Need-enum-known-refusal
+enum-known-refusal c = search needs
+
+enum-known-contents : tie.Need-enum-known-contents
+enum-known-contents c = search needs
+
+abbrev start : tie.After-contents → tie.Start
+start c = c .before .before .before .before
+
+-- where the file is whole: no row applies, and the contents are its own
+known : (c : tie.After-contents) → let file = start c .args .file .now in
+    (first (fileRows file) ≡ none) × (c .contents .given .0 .0 ≡ contents file)
+known c = rows-pass _ (c .before .before .«open» .ensures) (c .contents .given .1)
 
 returns : tie.Need-returns
-unfolding reads
+unfolding reads lentTooShort
 returns c =
-    let k = c .before .before .before in
-    nothing-altered _ _ _ (refuses-early _ _ _ (met (k .check .ensures) (c .before .checked .given .1)))
-
-enum-told : tie.Need-enum-told
-enum-told c = search needs
-
--- no row of the file applies
-passing : (c : tie.After-enum-told) → first (fileRows (c .before .before .before .before .args .file .now)) ≡ none
-passing c = met (c .before .before .check .ensures) (c .enum-told .given .1)
-
-slots-requires : tie.Need-slots-requires
-slots-requires c κs = whole _ (passing c) .long
+    let (pass, is) = known (c .before .before) in
+    nothing-altered _ _ _ (refuses-last _ _ 17 _ pass (rw (← ap (λ t. t .n) is, lt-ltb _ _ (c .if1 .taken)) refl))
 
 returns-2 : tie.Need-returns-2
 unfolding reads lentTooShort
 returns-2 c =
-    let k = c .before in
+    let k = c .before .before .before in
+    let (pass, is) = known k in
+    let short = ltb (length (start k .args .lowest .now)) (k .contents .given .0 .0 .n) in
     nothing-altered _ _ _
-    (refuses-last _ _ 17 _ (passing (k .before)) (rw (← k .slots .ensures .0, lt-ltb _ _ (c .if1 .taken)) refl))
-
-returns-3 : tie.Need-returns-3
-unfolding reads lentTooShort
-returns-3 c =
-    let k = c .before .before in
-    let args = k .before .before .before .before .before .args in
-    nothing-altered _ _ _
-    (refuses-last _ _ 17 _ (passing (k .before))
-    (rw (← k .slots .ensures .0) (or-true (ltb (length (args .lowest .now)) (k .slots .result)) (lt-ltb _ _ (c .if2 .taken)))))
+    (refuses-last _ _ 17 _ pass (rw (← ap (λ t. t .n) is) (or-true short (lt-ltb _ _ (c .if2 .taken)))))
 
 fill-requires : tie.Need-fill-requires
 fill-requires c κs =
-    let k = c .before .before .before .before in
-    let file = whole _ (passing (k .before)) in
-    ((omega (arith, file .back, file .there), rw (k .slots .ensures .0) (file .back)), (omega arith, omega arith))
+    let (pass, is) = known (c .before .before .before .before .before) in
+    let file = whole _ pass in
+    let first-record = ap (λ t. t .start) is in
+    ((first-record, omega (arith, first-record, ap (λ t. t .n) is, file .back, file .there)), (omega arith, omega arith))
 
-settings-requires : tie.Need-settings-requires
-settings-requires c κs = whole _ (passing (c .before .before .before .before .before .before .before .before)) .long
+returns-3 : tie.Need-returns-3
+unfolding reads
+returns-3 c =
+    let k = c .before in
+    nothing-altered _ _ _ (refuses-early _ _ _ (rows-refuse _ (k .before .before .«open» .ensures) (k .refusal .given .1)))
 
 same-length : tie.Need-same-length
 same-length c = search needs
@@ -72,27 +72,25 @@ returns-4 : tie.Need-returns-4
 unfolding reads lentTooShort
 returns-4 c =
     let put = c .before .before .before in
-    let k = put .before .before .before .before .before in
     let lent = put .before .before .before in
-    rw (c .settings .ensures, k .slots .ensures .0)
-    (records-put _ _ _ _
-    (gives-asked _ _ 17 _ (passing (k .before))
-    (rw (← k .slots .ensures .0, le-ltb _ _ (lent .before .if1 .left), le-ltb _ _ (lent .if2 .left)) refl))
-    (rw (k .slots .ensures .0) at (put .fill .ensures .0)) (rw (k .slots .ensures .0) at (put .fill .ensures .1)))
+    let (pass, is) = known (lent .before .before .before) in
+    records-put _ _ _ _
+    (gives-asked _ _ 17 _ pass
+    (rw (← ap (λ t. t .n) is, le-ltb _ _ (lent .before .if1 .left), le-ltb _ _ (lent .if2 .left)) refl)
+    ∙ ap (λ t. gives (record { settings = t .settings; n = t .n })) (sym is))
+    (put .fill .ensures .0) (put .fill .ensures .1)
 
 pub read-spec : {M : Type 1} → statement M
 read-spec =
     tie.close
     (tie.spec
-    check-requires
-    enum-known-checked
+    open-requires
+    enum-known-refusal
+    enum-known-contents
     returns
-    enum-told
-    slots-requires
     returns-2
-    returns-3
     fill-requires
-    settings-requires
+    returns-3
     same-length
     same-length-2
     returns-4)

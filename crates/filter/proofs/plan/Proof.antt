@@ -2,15 +2,16 @@
 use native.Mathlib.Omega.{arith}
 use mathlib.Core.Path.{_≡_, sym, _∙_}
 use lib.ListN.{take}
+use lib.Seq.{take-all}
 use mir.Facts.{toZ-ofZ}
 use mir.Syntax.{w32}
 use mir.Val.{SFits}
 use borrow.Author.Needs.{needs}
+use Rattle.settings.specs.Refusals.{limit}
 use Rattle.filter.proofs.Answering.{sizes, whole, whole-short, no-plan-kept, some-plan, plan-kept}
-use Rattle.filter.specs.Answers.{asked}
-use Rattle.filter.specs.Codes.{decoded}
-use Rattle.requests.specs.Request.{Request, slots, WellFormed}
-use Rattle.requests.specs.Solution.{classes}
+use Rattle.least.specs.Codes.{decoded}
+use Rattle.requests.specs.Request.{Request, asked, slots, WellFormed}
+use Rattle.requests.specs.Solution.{classes, cheapest, sparsest}
 use Rattle.filter.proofs.plan.Statement.{statement}
 use Rattle.filter.proofs.plan.Tie as tie
 
@@ -38,9 +39,17 @@ slice-aggregate-low : tie.Need-slice-aggregate-low
 slice-aggregate-low c = sym (whole _ (well (c .before)) _ (c .before .classify .ensures .0))
 
 low-requires : tie.Need-low-requires
-low-requires c κs =
-    let z = sizes _ (well (c .before)) in
-    (whole-short _ (well (c .before)) _ (c .before .classify .ensures .0), z .len)
+low-requires c κs = search needs
+
+-- both least counts: no slot is behind the last that `low` reads
+counts : (c : tie.After-low) →
+    let k = c .before .before in
+    let cs = decoded (take (slots (request k)) (k .classify .result)) in
+    (c .low .result .windows ≡ sparsest (request k .settings) cs) × (c .low .result .covered ≡ cheapest (request k .settings) cs)
+counts c =
+    let k = c .before .before in
+    rw (take-all limit (take (slots (request k)) (k .classify .result)) (whole-short _ (well k) _ (k .classify .ensures .0)))
+    at (c .low .ensures)
 
 same-length : tie.Need-same-length
 same-length c = search needs
@@ -51,7 +60,7 @@ same-length-2 c = search needs
 returns : tie.Need-returns
 returns c =
     let k = c .before .before .before .before .before in
-    let low = c .before .before .before .low .ensures in
+    let low = counts (c .before .before .before) in
     no-plan-kept _ (well k) _ (by-bytes k) _ (low .0) (low .1) (omega arith)
 
 -- from where a plan exists, back to where the bytes are known
@@ -72,7 +81,7 @@ draw-requires c κs =
     let k = classified exists in
     let z = sizes _ (well k) in
     let wide = k .classify .ensures .0 in
-    let low = exists .before .before .before .low .ensures in (
+    let low = counts (exists .before .before .before) in (
       whole-short _ (well k) _ wide,
       z .marks ∙ sym (whole _ (well k) _ wide),
       z .len,
@@ -108,7 +117,7 @@ returns-2 c =
     let drawn = narrowed .before .before .before .before .before in
     let exists = drawn .before .before .before in
     let k = classified exists in
-    let low = exists .before .before .before .low .ensures in
+    let low = counts (exists .before .before .before) in
     plan-kept _ (well k) _ (by-bytes k) _ (low .0) (low .1) (exists .if1 .left) _ (drawn .draw .ensures)
     (c .before .raise .ensures) (c .raise2 .ensures) (narrowed .narrow .ensures)
 

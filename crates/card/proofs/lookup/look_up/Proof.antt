@@ -1,88 +1,98 @@
 -- `card::lookup::look_up` meets its contract: the rows are met in their order (`Answering`), and a whole file has the record.
+use Prim.Native.Nat.{_+_, _*_, _≤_}
 use native.Mathlib.Omega.{arith}
 use mathlib.Core.Option.{none}
-use mathlib.Core.Path.{_≡_, sym}
+use mathlib.Core.Path.{_≡_, sym, ap}
 use borrow.Author.Needs.{needs}
 use borrow.Author.Tests.{le-leb, lt-leb}
+use lib.ListN.{length}
 use mir.Facts.{toZ-ofZ}
 use mir.Syntax.{w32}
 use mir.Val.{SFits}
-use Rattle.judge.specs.Refusals.{first}
-use Rattle.card.proofs.Answering.{met, refuses-early, refuses-last, gives-asked}
-use Rattle.card.proofs.Passing.{whole}
-use Rattle.card.specs.Form1.{slots, rangeOf, fileRows}
-use Rattle.card.specs.Reading.{checked, noSlot, looking}
+use Rattle.settings.specs.Refusals.{first}
+use Rattle.form1.proofs.Opening.{rows-refuse, rows-pass, slot-at}
+use Rattle.form1.proofs.Passing.{whole}
+use Rattle.form1.specs.Form1.{fileRows}
+use Rattle.form1.specs.Opening.{contents}
+use Rattle.card.proofs.Answering.{refuses-early, refuses-last, gives-asked}
+use Rattle.card.specs.Reading.{noSlot, looking}
 use Rattle.card.proofs.lookup.look_up.Statement.{statement}
 use Rattle.card.proofs.lookup.look_up.Tie as tie
 
-check-requires : tie.Need-check-requires
-check-requires c κs = search needs
+open-requires : tie.Need-open-requires
+open-requires c κs = search needs
 
-enum-known-checked : tie.Need-enum-known-checked
-enum-known-checked c = search needs
+enum-known-refusal : tie.Need-enum-known-refusal
+enum-known-refusal c = search needs
+
+enum-known-contents : tie.Need-enum-known-contents
+enum-known-contents c = search needs
+
+abbrev start : tie.After-contents → tie.Start
+start c = c .before .before .before .before
+
+-- where the file is whole: no row applies, and the contents are its own
+known : (c : tie.After-contents) → let file = start c .args .file .now in
+    (first (fileRows file) ≡ none) × (c .contents .given .0 .0 ≡ contents file)
+known c = rows-pass _ (c .before .before .«open» .ensures) (c .contents .given .1)
 
 returns : tie.Need-returns
-unfolding looking
+unfolding looking noSlot
 returns c =
     let k = c .before .before .before in
-    sym (refuses-early _ _ _ (met (k .check .ensures) (c .before .checked .given .1)))
+    let n = k .contents .given .0 .0 .n in
+    let (pass, is) = known k in
+    sym (refuses-last _ _ 19 _ pass (rw (← ap (λ t. t .n) is) (le-leb n (start k .args .slot) (omega (arith, c .if1 .taken)))))
 
-enum-told : tie.Need-enum-told
-enum-told c = search needs
+-- and where the slot is below n, its record is there
+there : (c : tie.Else1) →
+    let k = c .before .before .before in
+    let args = start k .args in
+    k .contents .given .0 .0 .start + 8 * args .slot + 8 ≤ length (args .file .now)
+there c =
+    let (pass, is) = known (c .before .before .before) in
+    let file = whole _ pass in
+    omega (arith, file .back, file .there, ap (λ t. t .n) is, ap (λ t. t .start) is, c .if1 .left)
 
--- no row of the file applies
-passing : (c : tie.After-enum-told) → first (fileRows (c .before .before .before .before .args .file .now)) ≡ none
-passing c = met (c .before .before .check .ensures) (c .enum-told .given .1)
+mul-range-at : tie.Need-mul-range-at
+mul-range-at c = record { fits = omega (arith, there c) }
 
-slots-requires : tie.Need-slots-requires
-slots-requires c κs = whole _ (passing c) .long
+add-range-at : tie.Need-add-range-at
+add-range-at c = record { fits = omega (arith, there (c .before)) }
+
+range-at-requires : tie.Need-range-at-requires
+range-at-requires c κs = search needs
 
 returns-2 : tie.Need-returns-2
-unfolding looking noSlot
+unfolding looking
 returns-2 c =
     let k = c .before in
-    let slot = k .before .before .before .before .before .args .slot in
-    sym (refuses-last _ _ 19 _ (passing (k .before)) (rw (← k .slots .ensures .0) (le-leb (k .slots .result) slot (omega arith))))
-
-place-requires : tie.Need-place-requires
-place-requires c κs =
-    let file = whole _ (passing (c .before .before)) in
-    let n = c .before .slots .ensures .0 in
-    (omega (arith, file .back, file .there), omega (arith, file .back, n, c .if1 .left))
-
-signed-at-requires : tie.Need-signed-at-requires
-signed-at-requires c κs = omega (arith, c .place .ensures .1)
-
-add-signed-at : tie.Need-add-signed-at
-add-signed-at c = search needs
-
-signed-at-requires-2 : tie.Need-signed-at-requires-2
-signed-at-requires-2 c κs = omega (arith, c .before .place .ensures .1)
+    sym (refuses-early _ _ _ (rows-refuse _ (k .before .before .«open» .ensures) (k .refusal .given .1)))
 
 returns-3 : tie.Need-returns-3
-unfolding looking noSlot rangeOf
+unfolding looking noSlot
 returns-3 c =
-    let placed = c .before .before in
-    let there = placed .before in
-    let lowest : SFits w32 (c .before .signed-at .result) = record { sfits = c .before .signed-at .ok } in
-    let highest : SFits w32 (c .signed-at2 .result) = record { sfits = c .signed-at2 .ok } in
-    rw (toZ-ofZ lowest, toZ-ofZ highest, c .before .signed-at .ensures, c .signed-at2 .ensures, placed .place .ensures .0)
-    (sym
-    (gives-asked _ _ 19 _ (passing (there .before .before))
-    (rw (← there .before .slots .ensures .0) (lt-leb _ _ (there .if1 .left)))))
+    let below = c .before .before .before in
+    let k = below .before .before .before in
+    let file = start k .args .file .now in
+    let slot = start k .args .slot in
+    let (pass, is) = known k in
+    let low : SFits w32 (c .before .range-at .result .lowest) = record { sfits = c .struct-told .given .0 .1 } in
+    let high : SFits w32 (c .before .range-at .result .highest) = record { sfits = c .struct-told .given .1 .0 .1 } in
+    let (lowest, highest) = slot-at file slot _ (ap (λ t. t .start + 8 * slot) is) (there below) in
+    rw (toZ-ofZ low, toZ-ofZ high, c .before .range-at .ensures, lowest, highest)
+    (sym (gives-asked _ _ 19 _ pass (rw (← ap (λ t. t .n) is) (lt-leb _ slot (below .if1 .left)))))
 
 pub look-up-spec : {M : Type 1} → statement M
 look-up-spec =
     tie.close
     (tie.spec
-    check-requires
-    enum-known-checked
+    open-requires
+    enum-known-refusal
+    enum-known-contents
     returns
-    enum-told
-    slots-requires
+    mul-range-at
+    add-range-at
+    range-at-requires
     returns-2
-    place-requires
-    signed-at-requires
-    add-signed-at
-    signed-at-requires-2
     returns-3)

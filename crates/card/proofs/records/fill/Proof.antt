@@ -1,51 +1,49 @@
 -- `card::records::fill` meets its contract: a turn fills one place of each slice (`Filling`).
-use Prim.Native.Nat.{_-_, _≤_}
+use Prim.Native.Nat.{_+_, _-_, _*_, _≤_}
 use native.Mathlib.Omega.{arith}
-use mathlib.Core.Path.{_≡_}
+use mathlib.Core.Path.{_≡_, ap, _∙_}
 use borrow.Author.Needs.{needs}
 use mir.Facts.{toZ-ofZ}
 use mir.Syntax.{w32}
 use mir.Val.{SFits}
+use Rattle.form1.proofs.Opening.{slot-at}
+use Rattle.form1.specs.Form1.{rangeOf}
 use Rattle.card.proofs.Filling.{Filled, start, turn}
-use Rattle.card.specs.Form1.{rangeOf}
 use Rattle.card.proofs.records.fill.Statement.{statement}
 use Rattle.card.proofs.records.fill.Tie as tie
 
 abbrev Inv-loop : tie.InvT-loop
-Inv-loop file n lowest₀ highest₀ slot₀ lowest highest slot =
+Inv-loop file start n lowest₀ highest₀ slot₀ lowest highest slot =
     Filled (λ i. rangeOf i file .lowest) lowest₀ slot lowest
     × Filled (λ i. rangeOf i file .highest) highest₀ slot highest
     × (slot ≤ n)
 
 abbrev μ-loop : tie.MeasureT-loop
-μ-loop file n lowest₀ highest₀ slot₀ lowest highest slot = n - slot
+μ-loop file start n lowest₀ highest₀ slot₀ lowest highest slot = n - slot
 
 loop-holds : tie.Need-loop-holds Inv-loop μ-loop
 loop-holds c = (start, start, omega arith)
 
-place-requires : tie.Need-place-requires Inv-loop μ-loop
-place-requires c κs = search needs
+mul-range-at : tie.Need-mul-range-at Inv-loop μ-loop
+mul-range-at c = search needs
 
-signed-at-requires : tie.Need-signed-at-requires Inv-loop μ-loop
-signed-at-requires c κs = search needs
+add-range-at : tie.Need-add-range-at Inv-loop μ-loop
+add-range-at c = search needs
 
-mul-highest : tie.Need-mul-highest Inv-loop μ-loop
-mul-highest c = search needs
+range-at-requires : tie.Need-range-at-requires Inv-loop μ-loop
+range-at-requires c κs = search needs
 
-slice-set-from-highest : tie.Need-slice-set-from-highest Inv-loop μ-loop
-slice-set-from-highest c = search needs
+mul-low : tie.Need-mul-low Inv-loop μ-loop
+mul-low c = search needs
 
-add-signed-at : tie.Need-add-signed-at Inv-loop μ-loop
-add-signed-at c = search needs
+slice-set-from-low : tie.Need-slice-set-from-low Inv-loop μ-loop
+slice-set-from-low c = search needs
 
-signed-at-requires-2 : tie.Need-signed-at-requires-2 Inv-loop μ-loop
-signed-at-requires-2 c κs = search needs
+mul-high : tie.Need-mul-high Inv-loop μ-loop
+mul-high c = search needs
 
-mul-t11 : tie.Need-mul-t11 Inv-loop μ-loop
-mul-t11 c = search needs
-
-slice-set-from-highest-2 : tie.Need-slice-set-from-highest-2 Inv-loop μ-loop
-slice-set-from-highest-2 c = search needs
+slice-set-from-high : tie.Need-slice-set-from-high Inv-loop μ-loop
+slice-set-from-high c = search needs
 
 add-slot : tie.Need-add-slot Inv-loop μ-loop
 add-slot c = search needs
@@ -54,15 +52,17 @@ loop-less : tie.Need-loop-less Inv-loop μ-loop
 loop-less c = search needs
 
 loop-again : tie.Need-loop-again Inv-loop μ-loop
-unfolding rangeOf
 loop-again c =
-    let placed = c .before .before in
-    let loop = placed .before .before .loop in
-    let lowest : SFits w32 (c .before .signed-at .result) = record { sfits = c .before .signed-at .ok } in
-    let highest : SFits w32 (c .signed-at2 .result) = record { sfits = c .signed-at2 .ok } in
-    rw (toZ-ofZ lowest, toZ-ofZ highest) (
-      turn (omega arith) (rw (← placed .place .ensures .0) (c .before .signed-at .ensures)) (loop .inv .0),
-      turn (omega arith) (rw (← placed .place .ensures .0) (c .signed-at2 .ensures)) (loop .inv .1),
+    let read = c .before .before in
+    let at = read .before .before in
+    let given = at .before .before in
+    let slot = at .loop .slot in
+    let low : SFits w32 (read .range-at .result .lowest) = record { sfits = c .before .struct-told .given .0 .1 } in
+    let high : SFits w32 (read .range-at .result .highest) = record { sfits = c .struct-told2 .given .1 .0 .1 } in
+    let (lowest, highest) = slot-at (given .args .file .now) slot _ (ap (λ s. s + 8 * slot) (given .pre .0 .0)) (omega arith) in
+    rw (toZ-ofZ low, toZ-ofZ high) (
+      turn (omega arith) (ap (λ b. b .lowest) (read .range-at .ensures) ∙ lowest) (at .loop .inv .0),
+      turn (omega arith) (ap (λ b. b .highest) (read .range-at .ensures) ∙ highest) (at .loop .inv .1),
       omega arith,
     )
 
@@ -85,14 +85,13 @@ fill-spec =
     Inv-loop
     μ-loop
     loop-holds
-    place-requires
-    signed-at-requires
-    mul-highest
-    slice-set-from-highest
-    add-signed-at
-    signed-at-requires-2
-    mul-t11
-    slice-set-from-highest-2
+    mul-range-at
+    add-range-at
+    range-at-requires
+    mul-low
+    slice-set-from-low
+    mul-high
+    slice-set-from-high
     add-slot
     loop-less
     loop-again

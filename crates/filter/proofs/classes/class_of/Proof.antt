@@ -1,9 +1,9 @@
 -- `filter::classes::class_of` meets its contract: its tests are the definition's.
 use mathlib.Core.Path.{refl}
 use mir.Facts.{toZ-ofZ}
-use Rattle.judge.specs.Ranges.{classOf}
-use Rattle.judge.specs.Rule.{over}
-use Rattle.filter.specs.Codes.{coded}
+use Rattle.rule.specs.Ranges.{classOf}
+use Rattle.rule.specs.Rule.{over}
+use Rattle.least.specs.Codes.{coded}
 use Rattle.filter.proofs.classes.class_of.Statement.{statement}
 use Rattle.filter.proofs.classes.class_of.Tie as tie
 

@@ -1,5 +1,5 @@
 -- `filter::draw::close` meets its contract: its test is the definition's.
-use Rattle.judge.proofs.Rules.{rules}
+use Rattle.facts.proofs.Rules.{rules}
 use Rattle.filter.proofs.draw.close.Statement.{statement}
 use Rattle.filter.proofs.draw.close.Tie as tie
 

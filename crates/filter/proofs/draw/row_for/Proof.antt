@@ -1,6 +1,8 @@
 -- `filter::draw::row_for` meets its contract: the row is the one that `rows` gave.
 use native.Mathlib.Omega.{arith}
 use borrow.Author.Needs.{needs}
+use lib.Seq.{take-all}
+use Rattle.settings.specs.Refusals.{limit}
 use Rattle.filter.proofs.draw.row_for.Statement.{statement}
 use Rattle.filter.proofs.draw.row_for.Tie as tie
 
@@ -15,7 +17,8 @@ rows-requires c κs = search needs
 
 returns-2 : tie.Need-returns-2
 returns-2 c =
-    let (behind, first) = c .before .rows .ensures in
+    let classes = c .before .before .before .before .before .before .args .classes .now in
+    let (behind, first) = rw (take-all limit classes (omega arith)) at (c .before .rows .ensures) in
     (behind .wide, (λ opened. behind), (λ n. absurd (n (omega arith))))
 
 pub row-for-spec : {M : Type 1} → statement M

@@ -2,7 +2,9 @@
 use native.Mathlib.Omega.{arith}
 use mathlib.Core.Path.{refl, sym}
 use borrow.Author.Needs.{needs}
-use lib.ListN.{length-set}
+use lib.ListN.{take, set, length-set}
+use lib.Seq.{take-all}
+use Rattle.settings.specs.Refusals.{limit}
 use Rattle.filter.proofs.Cutting.{settled, settled-length}
 use Rattle.requests.specs.Solution.{possible}
 use Rattle.filter.proofs.narrow.left.Statement.{statement}
@@ -20,15 +22,20 @@ slice-aggregate-low c =
     sym (settled-length (args .codes) (args .n) (args .i) (args .class) (omega arith))
 
 low-requires : tie.Need-low-requires
-low-requires c κs =
-    let args = c .before .args in
-    (omega (arith, settled-length (args .codes) (args .n) (args .i) (args .class) (omega arith)), omega arith)
+low-requires c κs = search needs
 
 returns : tie.Need-returns
 unfolding possible
 returns c =
     let args = c .before .before .before .before .args in
-    rw (c .before .before .low .ensures .1, settled (args .codes) (args .n) (args .i) (args .class) (omega arith)) refl
+    let short = settled-length (args .codes) (args .n) (args .i) (args .class) (omega arith) in
+    let lent = take (args .n) (set (args .codes) (args .i) (args .class)) in
+    rw (
+      c .before .before .low .ensures .1,
+      take-all limit lent (omega (arith, short)),
+      settled (args .codes) (args .n) (args .i) (args .class) (omega arith),
+    )
+    refl
 
 pub left-spec : {M : Type 1} → statement M
 left-spec = tie.close (tie.spec array-write-settled array-share-prefix-settled slice-aggregate-low low-requires returns)

@@ -1,7 +1,7 @@
 -- `judge::marks::advance` meets its contract: an answer for each arm.
 use borrow.Author.Needs.{needs}
-use Rattle.judge.proofs.Rules.{rules}
-use Rattle.judge.specs.Reading
+use Rattle.facts.proofs.Rules.{rules}
+use Rattle.rule.specs.Reading
 use Rattle.judge.proofs.marks.advance.Statement.{statement}
 use Rattle.judge.proofs.marks.advance.Tie as tie
 

@@ -5,8 +5,8 @@ use mathlib.Core.Bool.{not}
 use borrow.Author.Needs.{needs}
 use lib.Dec.{eqb}
 use lib.ListN.{length}
-use Rattle.judge.proofs.Tally.{Tally, none-yet, turn, all}
-use Rattle.judge.specs.Rule.{windows, covered}
+use Rattle.rule.proofs.Tally.{Tally, none-yet, turn, all}
+use Rattle.rule.specs.Rule.{windows, covered}
 use Rattle.judge.proofs.marks.count.Statement.{statement}
 use Rattle.judge.proofs.marks.count.Tie as tie
 

@@ -1,6 +1,6 @@
 -- `judge::marks::counted` meets its contract: an answer for each arm.
 use borrow.Author.Needs.{needs}
-use Rattle.judge.proofs.Rules.{rules}
+use Rattle.facts.proofs.Rules.{rules}
 use Rattle.judge.proofs.marks.counted.Statement.{statement}
 use Rattle.judge.proofs.marks.counted.Tie as tie
 

@@ -1,6 +1,6 @@
 -- `judge::marks::goes_with` meets its contract: its tests are the definition's.
-use Rattle.judge.proofs.Rules.{rules}
-use Rattle.judge.specs.Rule
+use Rattle.facts.proofs.Rules.{rules}
+use Rattle.rule.specs.Rule
 use Rattle.judge.proofs.marks.goes_with.Statement.{statement}
 use Rattle.judge.proofs.marks.goes_with.Tie as tie
 

@@ -10,8 +10,8 @@ use mir.Facts.{toZ-ofZ}
 use mir.Syntax.{w32}
 use mir.Val.{SFits}
 use Rattle.judge.proofs.Scan.{Left, placed, stuck, turn, finished}
-use Rattle.judge.specs.Reading.{stepOf}
-use Rattle.judge.specs.Rule.{over}
+use Rattle.judge.specs.Steps.{stepOf}
+use Rattle.rule.specs.Rule.{over}
 use Rattle.judge.proofs.marks.legal.Statement.{statement}
 use Rattle.judge.proofs.marks.legal.Tie as tie
 

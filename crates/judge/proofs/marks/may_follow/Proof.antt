@@ -1,6 +1,6 @@
 -- `judge::marks::may_follow` meets its contract: an answer for each arm, those of 1..=2 after those of 3.
 use native.Mathlib.Omega.{arith}
-use Rattle.judge.proofs.Bytes.{starts, goes-on, not-started, not-ended, not-a-mark, not-after}
+use Rattle.rule.proofs.Bytes.{starts, goes-on, not-started, not-ended, not-a-mark, not-after}
 use Rattle.judge.proofs.marks.may_follow.Statement.{statement}
 use Rattle.judge.proofs.marks.may_follow.Tie as tie
 

@@ -1,7 +1,7 @@
 -- `listing::put::signed` meets its contract: what is cast is the magnitude, or one less where x is negative (`Signs`).
 use native.Mathlib.Omega.{arith}
 use borrow.Author.Needs.{needs}
-use Rattle.judge.proofs.Signs.{Negative, NotNegative, negative, not-negative}
+use Rattle.facts.proofs.Signs.{Negative, NotNegative, negative, not-negative}
 use Rattle.listing.proofs.Signs.{with-minus, without}
 use Rattle.listing.proofs.Writing.{then}
 use Rattle.listing.proofs.put.signed.Statement.{statement}

@@ -1,0 +1,80 @@
+-- `cases::cards::file` is safe: a file that is read has at most 64 slots.
+use Prim.Native.Nat.{_≤_}
+use native.Mathlib.Omega.{arith}
+use mathlib.Core.Path.{sym, ap, _∙_}
+use borrow.Author.Needs.{needs}
+use Rattle.card.proofs.Agreeing.{few-slots}
+use Rattle.card.specs.Reading.{told}
+use Rattle.cases.proofs.cards.file.Statement.{statement}
+use Rattle.cases.proofs.cards.file.Tie as tie
+
+slice-aggregate-read : tie.Need-slice-aggregate-read
+slice-aggregate-read c = search needs
+
+slice-aggregate-read-2 : tie.Need-slice-aggregate-read-2
+slice-aggregate-read-2 c = search needs
+
+read-requires : tie.Need-read-requires
+read-requires c κs = search needs
+
+enum-known-refusal : tie.Need-enum-known-refusal
+enum-known-refusal c = search needs
+
+number-requires : tie.Need-number-requires
+number-requires c κs = search needs
+
+refused-requires : tie.Need-refused-requires
+refused-requires c κs = search needs
+
+line-feed-requires : tie.Need-line-feed-requires
+line-feed-requires c κs = search needs
+
+enum-known-settings : tie.Need-enum-known-settings
+enum-known-settings c = search needs
+
+asked-requires : tie.Need-asked-requires
+asked-requires c κs = search needs
+
+slice-aggregate-request : tie.Need-slice-aggregate-request
+slice-aggregate-request c = search needs
+
+slice-aggregate-request-2 : tie.Need-slice-aggregate-request-2
+slice-aggregate-request-2 c = search needs
+
+-- where the file is taken: what the reader gave
+abbrev was-read : tie.After-settings → tie.After-read
+was-read c = c .before .before .before .before
+
+few : (c : tie.After-settings) → c .settings .given .0 .1 .0 ≤ 64
+few c = few-slots _ _ _ (sym (ap (λ o. o .answer) (was-read c .read .ensures)) ∙ ap told (c .settings .given .1))
+
+request-requires : tie.Need-request-requires
+request-requires c κs =
+    let known = c .before .before .before .before in
+    let read = was-read known .read in
+    (omega (arith, few known, read .kept .1 .0), omega (arith, few known, read .kept .1 .1 .0), omega (arith, few known))
+
+returns : tie.Need-returns
+returns c = search needs
+
+returns-2 : tie.Need-returns-2
+returns-2 c = search needs
+
+pub file-spec : {M : Type 1} → statement M
+file-spec =
+    tie.close
+    (tie.spec
+    slice-aggregate-read
+    slice-aggregate-read-2
+    read-requires
+    enum-known-refusal
+    number-requires
+    refused-requires
+    line-feed-requires
+    enum-known-settings
+    asked-requires
+    slice-aggregate-request
+    slice-aggregate-request-2
+    request-requires
+    returns
+    returns-2)

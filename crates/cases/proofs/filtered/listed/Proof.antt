@@ -1,0 +1,40 @@
+-- `cases::filtered::listed` is safe: the text is within its buffer.
+use native.Mathlib.Omega.{arith}
+use mathlib.Core.Path.{sym}
+use borrow.Author.Needs.{needs}
+use lib.Seq.{length-take-le}
+use Rattle.cases.proofs.filtered.listed.Statement.{statement}
+use Rattle.cases.proofs.filtered.listed.Tie as tie
+
+slice-aggregate-answered : tie.Need-slice-aggregate-answered
+slice-aggregate-answered c = search needs
+
+answered-requires : tie.Need-answered-requires
+answered-requires c κs = search needs
+
+array-share-prefix-text : tie.Need-array-share-prefix-text
+array-share-prefix-text c = search needs
+
+slice-aggregate-write : tie.Need-slice-aggregate-write
+slice-aggregate-write c =
+    let k = c .before .before in
+    sym
+    (length-take-le (k .answered .result) (k .answered .last .1 .1 .1 .1 .0)
+    (omega (arith, k .answered .ensures .0 .ends, k .answered .kept .1 .1 .1 .1 .0)))
+
+write-requires : tie.Need-write-requires
+write-requires c κs = search needs
+
+returns : tie.Need-returns
+returns c = search needs
+
+pub listed-spec : {M : Type 1} → statement M
+listed-spec =
+    tie.close
+    (tie.spec
+    slice-aggregate-answered
+    answered-requires
+    array-share-prefix-text
+    slice-aggregate-write
+    write-requires
+    returns)

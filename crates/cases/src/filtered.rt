@@ -1,0 +1,83 @@
+// What the filter gives.
+ghost use Prim.Native.Nat.{_≤_};
+ghost use lib.ListN.{length};
+use crate::judged::said;
+use crate::numbers::SLOTS;
+use crate::numbers::numbers;
+use crate::numbers::second;
+use crate::numbers::settings;
+use crate::numbers::third;
+use crate::show::write;
+use crate::text::DECIMAL;
+use filter::Answer;
+use filter::filter;
+use judge::judge;
+use listing::ROOM;
+use settings::Settings;
+
+// `filter`: the settings; the lowest loads; the highest loads.
+pub fn filtered(line: &[u8]) {
+    let mut lowest = [0i32; SLOTS];
+    let n = numbers(line, second(line), DECIMAL, &mut lowest);
+    let mut highest = [0i32; SLOTS];
+    let m = numbers(line, third(line), DECIMAL, &mut highest);
+    request(settings(line), n, m, &mut lowest, &mut highest);
+}
+
+// A request of the first n lowest and the first m highest loads.
+pub fn request(settings: Settings, n: usize, m: usize, lowest: &mut [i32], highest: &mut [i32])
+    requires { ⌜ (n ≤ length (now lowest)) × (m ≤ length (now highest)) × (n ≤ 65) ⌝ }
+{
+    let mut marks = [0u8; SLOTS];
+    planned(
+        settings,
+        &mut lowest[..n],
+        &mut highest[..m],
+        &mut marks[..n],
+    );
+}
+
+// The answer, as the plan printer writes it; and of a plan, what the judge says.
+fn planned(settings: Settings, lowest: &mut [i32], highest: &mut [i32], marks: &mut [u8]) {
+    let answer = filter(settings, lowest, highest, marks);
+    listed(answer, lowest, highest, marks);
+    allowed(answer, settings, lowest, highest, marks);
+}
+
+fn listed(answer: Answer, lowest: &[i32], highest: &[i32], marks: &[u8]) {
+    let mut text = [0u8; ROOM];
+    let length = listing::answered(answer, lowest, highest, marks, &mut text);
+    write(&text[..length]);
+}
+
+fn allowed(answer: Answer, settings: Settings, lowest: &mut [i32], highest: &[i32], marks: &[u8]) {
+    if let Answer::Planned {
+        windows: _,
+        covered: _,
+    } = answer {
+        settle(lowest, highest, marks);
+        write(b"judge ");
+        said(judge(settings, lowest, marks));
+    }
+}
+
+// Makes the lowest loads fit the marks: where a mark is 1 or 2, it becomes the highest.
+fn settle(lowest: &mut [i32], highest: &[i32], marks: &[u8]) {
+    let mut i = 0;
+    while i < marks.len() {
+        settle_at(lowest, highest, marks[i], i);
+        i += 1;
+    }
+}
+
+fn settle_at(lowest: &mut [i32], highest: &[i32], mark: u8, i: usize) {
+    if i >= lowest.len() {
+        return;
+    }
+    if i >= highest.len() {
+        return;
+    }
+    if mark == 1 || mark == 2 {
+        lowest[i] = highest[i];
+    }
+}

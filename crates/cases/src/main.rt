@@ -1,0 +1,55 @@
+// Works the cases of its standard input, a line each: document 01's worked plans, and more. A line begins with the name of an
+// operation and has its numbers, in fields divided by `;`; words are passed over. Every line is written as it is, and below it what
+// the operation gave.
+use crate::cards::read;
+use crate::filtered::filtered;
+use crate::judged::chosen;
+use crate::judged::judged;
+use crate::show::write;
+use crate::text::behind;
+use crate::watched::stepped;
+use crate::watched::watched;
+use libc::STDIN_FILENO;
+
+mod cards;
+mod filtered;
+mod judged;
+mod numbers;
+mod show;
+mod text;
+mod watched;
+
+fn main() {
+    let mut buffer = io::large_buffer();
+    let size = io::read_full(STDIN_FILENO, &mut buffer);
+    each_line(&buffer[..size]);
+}
+
+fn each_line(text: &[u8]) {
+    let mut start = 0;
+    while start < text.len() {
+        let end = behind(text, start, b'\n');
+        line(&text[start..end]);
+        start = end;
+    }
+}
+
+fn line(line: &[u8]) {
+    write(line);
+    if line.len() > 0 {
+        operation(line[0], line);
+    }
+}
+
+// By the first letter of its name. A line with any other, as a comment, is only written.
+fn operation(letter: u8, line: &[u8]) {
+    match letter {
+        b'f' => filtered(line),
+        b'j' => judged(line),
+        b'c' => chosen(line),
+        b'w' => watched(line),
+        b's' => stepped(line),
+        b'r' => read(line),
+        _ => {}
+    }
+}

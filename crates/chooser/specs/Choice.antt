@@ -1,0 +1,39 @@
+-- What the chooser hands back (document 01, "Chooser"). It goes by what the judge says of each plan.
+use Prim.Native.Nat.{ℕ}
+use mathlib.Core.Path.{_≡_}
+use mathlib.Core.Bool.{true, false, cond}
+use mathlib.Core.List.{List, []}
+use lib.Dec.{ltb}
+use lib.IntN.{ℤ}
+use denote.Ref.{RefT, ptr, now}
+use Rattle.chooser.specs.declared.Choice.{Choice}
+use Rattle.chooser.specs.declared.Choice.the-variants.{First, Second, Neither}
+use Rattle.settings.specs.declared.Settings.{Settings}
+use Rattle.judge.specs.Judgment.{Judgment, says, refuses, judgment}
+
+-- fewer windows, then fewer covered slots, then the first
+unfoldable pub fewer : (w₁ c₁ w₂ c₂ : ℕ) → Choice
+fewer w₁ c₁ w₂ c₂ = cond (ltb w₂ w₁) Second (cond (ltb w₁ w₂) First (cond (ltb c₂ c₁) Second First))
+
+-- one that the judge says yes to beats one that it says no to; yes to neither, or any refusal, is neither
+abbrev pub choice : (one two : Judgment) → Choice
+choice (says true w₁ c₁) (says true w₂ c₂) = fewer w₁ c₁ w₂ c₂
+choice (says true w₁ c₁) (says false w₂ c₂) = First
+choice (says false w₁ c₁) (says true w₂ c₂) = Second
+choice (says false w₁ c₁) (says false w₂ c₂) = Neither
+choice (says true w₁ c₁) (refuses n) = Neither
+choice (says false w₁ c₁) (refuses n) = Neither
+choice (refuses n) two = Neither
+
+-- r is the empty part at the start of a
+abbrev pub EmptyPart : (a r : RefT (List ℕ)) → Type 0
+EmptyPart a r = (ptr r ≡ ptr a) × (now r ≡ [])
+
+-- r is the chosen one of the lent slices a and b, as that very slice: its pointer, ghost name and contents
+abbrev pub HandsBack : Choice → (a b r : RefT (List ℕ)) → Type 0
+HandsBack First a b r = r ≡ a
+HandsBack Second a b r = r ≡ b
+HandsBack Neither a b r = EmptyPart a r
+
+abbrev pub Chosen : Settings → List ℤ → (a b r : RefT (List ℕ)) → Type 0
+Chosen s loads a b r = HandsBack (choice (judgment s loads (now a)) (judgment s loads (now b))) a b r

@@ -1,0 +1,58 @@
+-- `exhaustive::judged::compare` is safe and ends: it counts up to the number of strings.
+use Prim.Native.Nat.{_≤_, _-_}
+use borrow.Author.Needs.{needs}
+use Rattle.exhaustive.proofs.judged.compare.Statement.{statement}
+use Rattle.exhaustive.proofs.judged.compare.Tie as tie
+
+abbrev Inv-loop : tie.InvT-loop
+Inv-loop n number request strings tally₀ string₀ tally string = string ≤ strings
+
+abbrev μ-loop : tie.MeasureT-loop
+μ-loop n number request strings tally₀ string₀ tally string = strings - string
+
+numbered-requires : tie.Need-numbered-requires Inv-loop μ-loop
+numbered-requires c κs = search needs
+
+strings-of-requires : tie.Need-strings-of-requires Inv-loop μ-loop
+strings-of-requires c κs = search needs
+
+none-requires : tie.Need-none-requires Inv-loop μ-loop
+none-requires c κs = search needs
+
+loop-holds : tie.Need-loop-holds Inv-loop μ-loop
+loop-holds c = search needs
+
+compare-one-requires : tie.Need-compare-one-requires Inv-loop μ-loop
+compare-one-requires c κs = search needs
+
+and-requires : tie.Need-and-requires Inv-loop μ-loop
+and-requires c κs = search needs
+
+add-string : tie.Need-add-string Inv-loop μ-loop
+add-string c = search needs
+
+loop-less : tie.Need-loop-less Inv-loop μ-loop
+loop-less c = search needs
+
+loop-again : tie.Need-loop-again Inv-loop μ-loop
+loop-again c = search needs
+
+returns : tie.Need-returns Inv-loop μ-loop
+returns c = search needs
+
+pub compare-spec : {M : Type 1} → statement M
+compare-spec =
+    tie.close
+    (tie.spec
+    Inv-loop
+    μ-loop
+    numbered-requires
+    strings-of-requires
+    none-requires
+    loop-holds
+    compare-one-requires
+    and-requires
+    add-string
+    loop-less
+    loop-again
+    returns)

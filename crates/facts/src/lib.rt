@@ -1,0 +1,1 @@
+// Facts on tests, lists and signed numbers that the proofs of several crates share. No operation.

@@ -1,0 +1,43 @@
+-- What the rows of a file leave as facts, where none applies.
+use Prim.Native.Nat.{ℕ, _+_, _*_, _≤_}
+use mathlib.Core.Bool.{Bool, false}
+use mathlib.Core.List.{List}
+use mathlib.Core.Option.{none}
+use mathlib.Core.Path.{_≡_, refl, sym, _∙_}
+use borrow.Author.Tests.{ltb-false, eqb-true, not-false}
+use lib.ListN.{length}
+use Rattle.settings.proofs.Passing.{clear, sized}
+use Rattle.facts.proofs.Rules.{neither}
+use Rattle.settings.specs.Refusals.{first}
+use Rattle.form1.specs.Form1.{wrongSize, wrongEnd, wrongForm, wrongSlots, wrongDistance, recordsMissing, numberAt, trailer, form, slots, distance, fileRows}
+
+pub record Whole (file : List ℕ) : Type 0 where
+  pub long : 16 ≤ length file
+  pub ends : (numberAt 1 (trailer file + 14) file ≡ 84) × (numberAt 1 (trailer file + 15) file ≡ 67)
+  pub first-form : form file ≡ 1
+  pub some-slots : (1 ≤ slots file) × (slots file ≤ 64)
+  pub back : distance file ≡ 8 * slots file
+  pub there : 16 + 8 * slots file ≤ length file
+
+-- b is the test of row 11
+pub long-enough : (file : List ℕ) (b : Bool) → b ≡ wrongSize file → b ≡ false → 16 ≤ length file
+unfolding wrongSize
+long-enough file b is e = ltb-false _ _ (neither _ _ (sym is ∙ e) .0)
+
+pub whole : (file : List ℕ) → first (fileRows file) ≡ none → Whole file
+unfolding fileRows wrongEnd wrongForm wrongSlots wrongDistance recordsMissing
+whole file e =
+    let (size, e) = clear 11 _ _ e in
+    let (end, e) = clear 12 _ _ e in
+    let (form, e) = clear 13 _ _ e in
+    let (n, e) = clear 14 _ _ e in
+    let (back, e) = clear 15 _ _ e in
+    let (records, e) = clear 16 _ _ e in
+    record {
+      long = long-enough file _ refl size;
+      ends = let (one, other) = neither _ _ end in (eqb-true _ _ (not-false _ one), eqb-true _ _ (not-false _ other));
+      first-form = eqb-true _ _ (not-false _ form);
+      some-slots = sized (slots file) 64 .0 n;
+      back = eqb-true _ _ (not-false _ back);
+      there = ltb-false _ _ records;
+    }

@@ -1,0 +1,31 @@
+-- `form1::bytes::signed` meets its contract: either half of the numbers of 32 bits is read as two's complement (`Numbers`).
+use Prim.Native.Nat.{_-_}
+use native.Mathlib.Omega.{arith}
+use mathlib.Core.Path.{_≡_, ap, _∙_}
+use borrow.Author.Needs.{needs}
+use mir.Syntax.{w32}
+use mir.Val.{toZ}
+use Rattle.form1.proofs.Numbers.{complement}
+use Rattle.form1.proofs.bytes.signed.Statement.{statement}
+use Rattle.form1.proofs.bytes.signed.Tie as tie
+
+cast-result : tie.Need-cast-result
+cast-result c = search needs
+
+returns : tie.Need-returns
+returns c = complement _ (omega arith)
+
+sub-result : tie.Need-sub-result
+sub-result c = search needs
+
+cast-result-2 : tie.Need-cast-result-2
+cast-result-2 c = search needs
+
+returns-2 : tie.Need-returns-2
+returns-2 c =
+    let n = c .before .args .n in
+    let again : 4294967295 - (4294967295 - n) ≡ n = omega arith in
+    ap (toZ w32) again ∙ complement n (omega arith)
+
+pub signed-spec : {M : Type 1} → statement M
+signed-spec = tie.close (tie.spec cast-result returns sub-result cast-result-2 returns-2)

@@ -1,0 +1,62 @@
+-- `form1::open` meets its contract: what `check` gave, and a whole file has the trailer and the records.
+use Prim.Native.Nat.{ℕ}
+use native.Mathlib.Omega.{arith}
+use mathlib.Core.Option.{Option, none}
+use mathlib.Core.Path.{_≡_, refl, sym, ap, _∙_}
+use borrow.Author.Needs.{needs}
+use Rattle.settings.specs.Refusals.{first}
+use Rattle.form1.proofs.Passing.{whole}
+use Rattle.form1.specs.Form1.{fileRows}
+use Rattle.form1.specs.Opening.{checked, opening}
+use Rattle.form1.specs.declared.check.Checked.{Checked}
+use Rattle.form1.proofs.open.Statement.{statement}
+use Rattle.form1.proofs.open.Tie as tie
+
+-- what the rows come to, by what `check` gave
+met : {o : Option ℕ} {r q : Checked} → checked r ≡ o → r ≡ q → o ≡ checked q
+met is e = sym is ∙ ap checked e
+
+check-requires : tie.Need-check-requires
+check-requires c κs = search needs
+
+enum-known-checked : tie.Need-enum-known-checked
+enum-known-checked c = search needs
+
+returns : tie.Need-returns
+unfolding opening
+returns c = rw (met (c .before .before .before .check .ensures) (c .before .checked .given .1)) refl
+
+enum-told : tie.Need-enum-told
+enum-told c = search needs
+
+-- no row of the file applies
+passing : (c : tie.After-enum-told) → first (fileRows (c .before .before .before .before .args .file .now)) ≡ none
+passing c = met (c .before .before .check .ensures) (c .enum-told .given .1)
+
+settings-requires : tie.Need-settings-requires
+settings-requires c κs = whole _ (passing c) .long
+
+slots-requires : tie.Need-slots-requires
+slots-requires c κs = whole _ (passing (c .before)) .long
+
+start-requires : tie.Need-start-requires
+start-requires c κs = let file = whole _ (passing (c .before .before)) in omega (arith, file .back, file .there)
+
+returns-2 : tie.Need-returns-2
+unfolding opening
+returns-2 c =
+    let n = c .before in
+    rw (n .before .settings .ensures, n .slots .ensures .0, c .start .ensures, passing (n .before .before)) refl
+
+pub open-spec : {M : Type 1} → statement M
+open-spec =
+    tie.close
+    (tie.spec
+    check-requires
+    enum-known-checked
+    returns
+    enum-told
+    settings-requires
+    slots-requires
+    start-requires
+    returns-2)

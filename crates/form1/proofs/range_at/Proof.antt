@@ -1,0 +1,64 @@
+-- `form1::range_at` meets its contract: its tests are that of the definition.
+use Prim.Native.Nat.{_+_}
+use native.Mathlib.Omega.{arith}
+use mathlib.Core.Path.{refl}
+use borrow.Author.Needs.{needs}
+use borrow.Author.Tests.{le-leb, lt-leb}
+use lib.ListN.{length}
+use mir.Facts.{toZ-ofZ}
+use mir.Syntax.{w32}
+use mir.Val.{SFits}
+use Rattle.form1.specs.Opening.{boundsAt}
+use Rattle.form1.proofs.range_at.Statement.{statement}
+use Rattle.form1.proofs.range_at.Tie as tie
+
+returns : tie.Need-returns
+unfolding boundsAt
+returns c =
+    let args = c .before .before .args in
+    rw (lt-leb (args .place + 8) (length (args .file .now)) (omega arith)) refl
+
+sub-if2 : tie.Need-sub-if2
+sub-if2 c = search needs
+
+returns-2 : tie.Need-returns-2
+unfolding boundsAt
+returns-2 c =
+    let args = c .before .before .before .args in
+    rw (lt-leb (args .place + 8) (length (args .file .now)) (omega arith)) refl
+
+signed-at-requires : tie.Need-signed-at-requires
+signed-at-requires c κs = search needs
+
+add-signed-at : tie.Need-add-signed-at
+add-signed-at c = search needs
+
+signed-at-requires-2 : tie.Need-signed-at-requires-2
+signed-at-requires-2 c κs = search needs
+
+returns-3 : tie.Need-returns-3
+unfolding boundsAt
+returns-3 c =
+    let args = c .before .before .before .before .before .args in
+    let lowest : SFits w32 (c .before .signed-at .result) = record { sfits = c .before .signed-at .ok } in
+    let highest : SFits w32 (c .signed-at2 .result) = record { sfits = c .signed-at2 .ok } in
+    rw (
+      toZ-ofZ lowest,
+      toZ-ofZ highest,
+      c .before .signed-at .ensures,
+      c .signed-at2 .ensures,
+      le-leb (args .place + 8) (length (args .file .now)) (omega arith),
+    )
+    refl
+
+pub range-at-spec : {M : Type 1} → statement M
+range-at-spec =
+    tie.close
+    (tie.spec
+    returns
+    sub-if2
+    returns-2
+    signed-at-requires
+    add-signed-at
+    signed-at-requires-2
+    returns-3)

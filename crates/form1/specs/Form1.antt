@@ -1,0 +1,104 @@
+-- Form 1, the file on the card, as a list of bytes (document 01, "Form 1, on the card").
+use Prim.Native.Nat.{ℕ, zero, suc, _+_, _-_, _*_}
+use mathlib.Core.Bool.{Bool, cond, not, _||_}
+use mathlib.Core.List.{List, [], _∷_, _++_}
+use mathlib.Core.Option.{Option}
+use lib.Dec.{eqb, ltb}
+use lib.IntN.{ℤ, pos, _-ℤ_}
+use lib.ListN.{length, take, drop}
+use Rattle.rule.specs.Ranges.{Range}
+use Rattle.settings.specs.Refusals.{Row, row, first}
+use Rattle.settings.specs.declared.Settings.{Settings}
+
+-- numbers are little-endian ..
+unfoldable pub little : List ℕ → ℕ
+little [] = 0
+little (b ∷ bs) = b + 256 * little bs
+
+-- .. signed ones, which all have 32 bits, in two's complement
+unfoldable pub signed : ℕ → ℤ
+signed n = cond (ltb n 2147483648) (pos n) (pos n -ℤ pos 4294967296)
+
+-- the number of so many bytes that stands at a place
+unfoldable pub numberAt : (size place : ℕ) → List ℕ → ℕ
+numberAt size place file = little (take size (drop place file))
+
+unfoldable pub signedAt : (place : ℕ) → List ℕ → ℤ
+signedAt place file = signed (numberAt 4 place file)
+
+-- the last 16 bytes are the trailer
+abbrev pub trailer : List ℕ → ℕ
+trailer file = length file - 16
+
+-- its fields, one behind the other
+unfoldable pub distance : List ℕ → ℕ
+distance file = numberAt 2 (trailer file) file
+
+unfoldable pub slots : List ℕ → ℕ
+slots file = numberAt 1 (trailer file + 2) file
+
+unfoldable pub settings : List ℕ → Settings
+settings file =
+    record {
+      k = signedAt (trailer file + 9) file;
+      len = numberAt 1 (trailer file + 3) file;
+      h = numberAt 1 (trailer file + 4) file;
+      windows = record { least = numberAt 1 (trailer file + 5) file; most = numberAt 1 (trailer file + 6) file };
+      covered = record { least = numberAt 1 (trailer file + 7) file; most = numberAt 1 (trailer file + 8) file };
+    }
+
+unfoldable pub form : List ℕ → ℕ
+form file = numberAt 1 (trailer file + 13) file
+
+-- before it stand n records of 8 bytes, lowest and highest; the distance goes back from its start to the first of them. What is
+-- before that is a free note
+unfoldable pub rangeOf : (slot : ℕ) → List ℕ → Range
+rangeOf slot file =
+    record {
+      lowest = signedAt (trailer file - distance file + 8 * slot) file;
+      highest = signedAt (trailer file - distance file + 8 * slot + 4) file;
+    }
+
+-- what the slots from 0 up to n give, in their order
+unfoldable pub each : {A : Type 0} (n : ℕ) → (ℕ → A) → List A
+each zero f = []
+each (suc n) f = each n f ++ (f n ∷ [])
+
+-- 11: fewer than 16 or more than 4,096 bytes
+unfoldable pub wrongSize : List ℕ → Bool
+wrongSize file = ltb (length file) 16 || ltb 4096 (length file)
+
+-- 12: the last two bytes are not 54 43 (hexadecimal)
+unfoldable pub wrongEnd : List ℕ → Bool
+wrongEnd file = not (eqb (numberAt 1 (trailer file + 14) file) 84) || not (eqb (numberAt 1 (trailer file + 15) file) 67)
+
+-- 13: the form byte is not 1
+unfoldable pub wrongForm : List ℕ → Bool
+wrongForm file = not (eqb (form file) 1)
+
+-- 14: n is 0 or above 64
+unfoldable pub wrongSlots : List ℕ → Bool
+wrongSlots file = eqb (slots file) 0 || ltb 64 (slots file)
+
+-- 15: the distance back is not 8 times n
+unfoldable pub wrongDistance : List ℕ → Bool
+wrongDistance file = not (eqb (distance file) (8 * slots file))
+
+-- 16: fewer than 16 + 8 times n bytes
+unfoldable pub recordsMissing : List ℕ → Bool
+recordsMissing file = ltb (length file) (16 + 8 * slots file)
+
+-- the file place ("Where each refusal is checked"), as far as the reader and the look-up share it
+unfoldable pub fileRows : List ℕ → List Row
+fileRows file =
+    row 11 (wrongSize file)
+    ∷ row 12 (wrongEnd file)
+    ∷ row 13 (wrongForm file)
+    ∷ row 14 (wrongSlots file)
+    ∷ row 15 (wrongDistance file)
+    ∷ row 16 (recordsMissing file)
+    ∷ []
+
+-- one row more: 17 for the reader, 19 for the look-up
+unfoldable pub refusal : (last : Row) → List ℕ → Option ℕ
+refusal last file = first (fileRows file ++ (last ∷ []))

@@ -1,0 +1,3 @@
+pub mod Form1
+pub mod Layout
+pub mod Opening

@@ -1,0 +1,63 @@
+-- What is said of a file before its records are read, and of the record at a place (document 01, "Form 1, on the card" and "Where
+-- each refusal is checked").
+use Prim.Native.Nat.{ℕ, _+_, _-_}
+use mathlib.Core.Bool.{cond}
+use mathlib.Core.List.{List}
+use mathlib.Core.Option.{Option, none, some}
+use lib.Dec.{leb}
+use lib.IntN.{pos}
+use lib.ListN.{length}
+use Rattle.settings.specs.Refusals.{first}
+use Rattle.form1.specs.Form1.{signedAt, trailer, distance, slots, settings, fileRows}
+use Rattle.form1.specs.declared.Bounds.{Bounds}
+use Rattle.form1.specs.declared.Contents.{Contents}
+use Rattle.form1.specs.declared.Opened.{Opened}
+use Rattle.form1.specs.declared.Opened.the-variants.{Refused as Opened·Refused, Whole}
+use Rattle.form1.specs.declared.check.Checked.{Checked}
+use Rattle.form1.specs.declared.check.Checked.the-variants.{Passed, Refused as Checked·Refused}
+use Rattle.form1.specs.declared.Refusal.{Refusal}
+use Rattle.form1.specs.declared.Refusal.the-variants.{Size, End, Form, Slots, Distance, Records, Lent, Slot}
+
+-- document 01's number of each refusal
+abbrev pub number : Refusal → ℕ
+number Size = 11
+number End = 12
+number Form = 13
+number Slots = 14
+number Distance = 15
+number Records = 16
+number Lent = 17
+number Slot = 19
+
+abbrev pub checked : Checked → Option ℕ
+checked Passed = none
+checked (Checked·Refused r) = some (number r)
+
+-- a refusal by its number, or what was asked
+pub data Answer (A : Type 0) : Type 0 where
+  refuses : (number : ℕ) → Answer A
+  gives : A → Answer A
+
+abbrev pub answer : {A : Type 0} → Option ℕ → A → Answer A
+answer (some number) asked = refuses number
+answer none asked = gives asked
+
+abbrev pub said : Opened → Answer Contents
+said (Opened·Refused r) = refuses (number r)
+said (Whole contents) = gives contents
+
+-- what the trailer says; the distance goes back from its start to the first record
+abbrev pub contents : List ℕ → Contents
+contents file = record { settings = settings file; n = slots file; start = trailer file - distance file }
+
+-- the first of 11 to 16 that applies, or that; the settings are not judged
+unfoldable pub opening : List ℕ → Answer Contents
+opening file = answer (first (fileRows file)) (contents file)
+
+-- the record at a place, lowest and highest; 0 and 0 where the file does not have its 8 bytes, which document 01 leaves open
+unfoldable pub boundsAt : (place : ℕ) → List ℕ → Bounds
+boundsAt place file =
+    cond
+    (leb (place + 8) (length file))
+    (record { lowest = signedAt place file; highest = signedAt (place + 4) file })
+    (record { lowest = pos 0; highest = pos 0 })

@@ -1,0 +1,43 @@
+// Numbers at places of a file, the least byte first.
+ghost use mathlib.Core.Path.{_≡_};
+ghost use Prim.Native.Nat.{_+_, _≤_, _<_};
+ghost use lib.ListN.{length};
+ghost use Rattle.form1.specs.Form1.{numberAt, signedAt, signed as Form1·signed};
+
+pub(crate) fn pair(file: &[u8], place: usize) -> u32
+    requires { ⌜ place + 2 ≤ length (now file) ⌝ }
+    ensures { λ r. ⌜ (r ≡ numberAt 2 place (now (file .entry))) × (r < 65536) ⌝ }
+{
+    wide(file[place]) + 256 * wide(file[place + 1])
+}
+
+// A byte is below 256, for the sums that rest on it.
+fn wide(byte: u8) -> u32
+    ensures { λ r. ⌜ (r ≡ byte) × (r < 256) ⌝ }
+{
+    byte as u32
+}
+
+fn word(file: &[u8], place: usize) -> u32
+    requires { ⌜ place + 4 ≤ length (now file) ⌝ }
+    ensures { λ r. ⌜ r ≡ numberAt 4 place (now (file .entry)) ⌝ }
+{
+    pair(file, place) + 65536 * pair(file, place + 2)
+}
+
+// A cast has to keep its number: from 2,147,483,648 on the complement is cast.
+fn signed(n: u32) -> i32
+    ensures { λ r. ⌜ r ≡ Form1·signed n ⌝ }
+{
+    if n < 2147483648 {
+        return n as i32;
+    }
+    !((4294967295 - n) as i32)
+}
+
+pub(crate) fn signed_at(file: &[u8], place: usize) -> i32
+    requires { ⌜ place + 4 ≤ length (now file) ⌝ }
+    ensures { λ r. ⌜ r ≡ signedAt place (now (file .entry)) ⌝ }
+{
+    signed(word(file, place))
+}

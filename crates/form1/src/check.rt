@@ -1,0 +1,94 @@
+// The refusals of the file place.
+ghost use mathlib.Core.Path.{_≡_};
+ghost use Prim.Native.Nat.{_≤_};
+ghost use lib.ListN.{length};
+ghost use Rattle.settings.specs.Refusals.{first};
+ghost use Rattle.form1.specs.Form1.{fileRows};
+ghost use Rattle.form1.specs.Form1.{wrongSize, wrongEnd, wrongForm, wrongSlots, wrongDistance, recordsMissing};
+ghost use Rattle.form1.specs.Opening.{checked};
+use crate::RECORD;
+use crate::Refusal;
+use crate::fields::TRAILER;
+use crate::fields::byte;
+use crate::fields::distance;
+use crate::fields::slots;
+
+// The most bytes and the most slots of form 1.
+const MOST_BYTES: usize = 4096;
+
+const MOST_SLOTS: usize = 64;
+
+// Whether a file passes 11 to 16, or the first that applies.
+pub enum Checked {
+    Passed,
+    Refused(Refusal),
+}
+
+pub(crate) fn check(file: &[u8]) -> Checked
+    ensures { λ r. ⌜ checked r ≡ first (fileRows (now (file .entry))) ⌝ }
+{
+    if wrong_size(file) {
+        return Checked::Refused(Refusal::Size);
+    }
+    if wrong_end(file) {
+        return Checked::Refused(Refusal::End);
+    }
+    if wrong_form(file) {
+        return Checked::Refused(Refusal::Form);
+    }
+    if wrong_slots(file) {
+        return Checked::Refused(Refusal::Slots);
+    }
+    if wrong_distance(file) {
+        return Checked::Refused(Refusal::Distance);
+    }
+    if records_missing(file) {
+        return Checked::Refused(Refusal::Records);
+    }
+    Checked::Passed
+}
+
+// The tests of the rows, from 11 on.
+fn wrong_size(file: &[u8]) -> bool
+    ensures { λ r. ⌜ r ≡ wrongSize (now (file .entry)) ⌝ }
+{
+    file.len() < TRAILER || file.len() > MOST_BYTES
+}
+
+fn wrong_end(file: &[u8]) -> bool
+    requires { ⌜ 16 ≤ length (now file) ⌝ }
+    ensures { λ r. ⌜ r ≡ wrongEnd (now (file .entry)) ⌝ }
+{
+    let last_but_one = byte(file, 14);
+    let last = byte(file, 15);
+    last_but_one != 0x54 || last != 0x43
+}
+
+fn wrong_form(file: &[u8]) -> bool
+    requires { ⌜ 16 ≤ length (now file) ⌝ }
+    ensures { λ r. ⌜ r ≡ wrongForm (now (file .entry)) ⌝ }
+{
+    byte(file, 13) != 1
+}
+
+fn wrong_slots(file: &[u8]) -> bool
+    requires { ⌜ 16 ≤ length (now file) ⌝ }
+    ensures { λ r. ⌜ r ≡ wrongSlots (now (file .entry)) ⌝ }
+{
+    let n = slots(file);
+    n == 0 || n > MOST_SLOTS
+}
+
+fn wrong_distance(file: &[u8]) -> bool
+    requires { ⌜ 16 ≤ length (now file) ⌝ }
+    ensures { λ r. ⌜ r ≡ wrongDistance (now (file .entry)) ⌝ }
+{
+    distance(file) != RECORD * slots(file)
+}
+
+fn records_missing(file: &[u8]) -> bool
+    requires { ⌜ 16 ≤ length (now file) ⌝ }
+    ensures { λ r. ⌜ r ≡ recordsMissing (now (file .entry)) ⌝ }
+{
+    file.len() < TRAILER + RECORD * slots(file)
+}

@@ -1,0 +1,71 @@
+// The fields of the trailer.
+ghost use mathlib.Core.Path.{_≡_};
+ghost use Prim.Native.Nat.{_+_, _-_, _≤_, _<_};
+ghost use lib.ListN.{length};
+ghost use Rattle.form1.specs.Form1.{numberAt, trailer};
+ghost use Rattle.form1.specs.Form1.{distance as Form1·distance, slots as Form1·slots, settings as Form1·settings};
+use crate::bytes::pair;
+use crate::bytes::signed_at;
+use settings::CountRange;
+use settings::Settings;
+
+// The bytes of the trailer.
+pub(crate) const TRAILER: usize = 16;
+
+// The byte at a place of the trailer.
+pub(crate) fn byte(file: &[u8], place: usize) -> u8
+    requires { ⌜ (16 ≤ length (now file)) × (place < 16) ⌝ }
+    ensures { λ r. ⌜ r ≡ numberAt 1 (trailer (now (file .entry)) + place) (now (file .entry)) ⌝ }
+{
+    file[file.len() - TRAILER + place]
+}
+
+pub(crate) fn distance(file: &[u8]) -> usize
+    requires { ⌜ 16 ≤ length (now file) ⌝ }
+    ensures { λ r. ⌜ r ≡ Form1·distance (now (file .entry)) ⌝ }
+{
+    pair(file, file.len() - TRAILER) as usize
+}
+
+// Where the first record begins.
+pub(crate) fn start(file: &[u8]) -> usize
+    requires { ⌜ 16 + Form1·distance (now file) ≤ length (now file) ⌝ }
+    ensures { λ r. ⌜ r ≡ trailer (now (file .entry)) - Form1·distance (now (file .entry)) ⌝ }
+{
+    let back = TRAILER + distance(file);
+    file.len() - back
+}
+
+pub(crate) fn slots(file: &[u8]) -> usize
+    requires { ⌜ 16 ≤ length (now file) ⌝ }
+    ensures { λ r. ⌜ (r ≡ Form1·slots (now (file .entry))) × (r < 256) ⌝ }
+{
+    byte(file, 2) as usize
+}
+
+pub(crate) fn settings(file: &[u8]) -> Settings
+    requires { ⌜ 16 ≤ length (now file) ⌝ }
+    ensures { λ r. ⌜ r ≡ Form1·settings (now (file .entry)) ⌝ }
+{
+    Settings {
+        k: signed_at(file, file.len() - TRAILER + 9),
+        len: byte(file, 3) as u16,
+        h: byte(file, 4) as u16,
+        windows: counts(file, 5),
+        covered: counts(file, 7),
+    }
+}
+
+// The least and the most of a count, from a place of the trailer on.
+fn counts(file: &[u8], place: usize) -> CountRange
+    requires { ⌜ (16 ≤ length (now file)) × (place + 1 < 16) ⌝ }
+    ensures { λ r. ⌜ r ≡ record {
+      least = numberAt 1 (trailer (now (file .entry)) + place) (now (file .entry));
+      most = numberAt 1 (trailer (now (file .entry)) + (place + 1)) (now (file .entry));
+    } ⌝ }
+{
+    CountRange {
+        least: byte(file, place) as u16,
+        most: byte(file, place + 1) as u16,
+    }
+}

@@ -1,0 +1,103 @@
+// Form 1, the file on the card: whether a file has it, what its trailer says, and the record at a place. The format is
+// specs/Form1.antt; what comes back is specs/Opening.antt.
+ghost use mathlib.Core.Path.{_≡_};
+ghost use Rattle.form1.specs.Opening.{number as Opening·number, said, opening, boundsAt};
+use crate::bytes::signed_at;
+use crate::check::Checked;
+use crate::check::check;
+use crate::fields::settings;
+use crate::fields::slots;
+use crate::fields::start;
+use settings::Settings;
+
+mod bytes;
+mod check;
+mod fields;
+
+// The bytes of a record.
+pub const RECORD: usize = 8;
+
+// Why a file is not read: 11 to 17, then 19, in this order.
+pub enum Refusal {
+    Size,
+    End,
+    Form,
+    Slots,
+    Distance,
+    Records,
+    Lent,
+    Slot,
+}
+
+impl Refusal {
+    // Document 01's number.
+    pub fn number(self) -> u16
+        ensures { λ r. ⌜ r ≡ Opening·number self ⌝ }
+    {
+        match self {
+            Refusal::Size => 11,
+            Refusal::End => 12,
+            Refusal::Form => 13,
+            Refusal::Slots => 14,
+            Refusal::Distance => 15,
+            Refusal::Records => 16,
+            Refusal::Lent => 17,
+            Refusal::Slot => 19,
+        }
+    }
+}
+
+// What the trailer says; start is the place of the first record.
+pub struct Contents {
+    pub settings: Settings,
+    pub n: usize,
+    pub start: usize,
+}
+
+pub enum Opened {
+    Refused(Refusal),
+    Whole(Contents),
+}
+
+// The loads of a record.
+pub struct Bounds {
+    pub lowest: i32,
+    pub highest: i32,
+}
+
+// Gives the first of 11 to 16 that applies, or what the trailer says.
+pub fn open(file: &[u8]) -> Opened
+    ensures { λ r. ⌜ said r ≡ opening (now (file .entry)) ⌝ }
+{
+    let checked = check(file);
+    if let Checked::Refused(refusal) = checked {
+        return Opened::Refused(refusal);
+    }
+    Opened::Whole(Contents {
+        settings: settings(file),
+        n: slots(file),
+        start: start(file),
+    })
+}
+
+// Gives the record that stands at a place; 0 and 0 where the file has no 8 bytes there.
+pub fn range_at(file: &[u8], place: usize) -> Bounds
+    ensures { λ r. ⌜ r ≡ boundsAt place (now (file .entry)) ⌝ }
+{
+    if file.len() < RECORD {
+        return Bounds {
+            lowest: 0,
+            highest: 0,
+        };
+    }
+    if file.len() - RECORD < place {
+        return Bounds {
+            lowest: 0,
+            highest: 0,
+        };
+    }
+    Bounds {
+        lowest: signed_at(file, place),
+        highest: signed_at(file, place + 4),
+    }
+}

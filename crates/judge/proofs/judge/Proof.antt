@@ -1,0 +1,67 @@
+-- `judge::judge` meets its contract: what the judge says, by the tests on the way (`Judging`).
+use Prim.Native.Nat.{_≤_}
+use native.Mathlib.Omega.{arith}
+use mathlib.Core.Path.{_≡_, sym, _∙_, ap}
+use borrow.Author.Needs.{needs}
+use lib.ListN.{length}
+use Rattle.judge.proofs.Judging.{judging}
+use Rattle.settings.proofs.Passing.{passing-by}
+use Rattle.settings.specs.Refusals.{limit, checked}
+use Rattle.judge.proofs.judge.Statement.{statement}
+use Rattle.judge.proofs.judge.Tie as tie
+
+differ-requires : tie.Need-differ-requires
+differ-requires c κs = search needs
+
+check-requires : tie.Need-check-requires
+check-requires c κs = search needs
+
+enum-known-checked : tie.Need-enum-known-checked
+enum-known-checked c = search needs
+
+returns : tie.Need-returns
+returns c = search judging depth 7
+
+enum-told : tie.Need-enum-told
+enum-told c = search needs
+
+passed : (c : tie.After-enum-told) → let args = c .before .before .before .before .before .args in
+    (length (args .loads .now) ≡ length (args .marks .now)) × (length (args .marks .now) ≤ limit)
+passed c =
+    let k = c .before .before in
+    let p = passing-by (k .before .differ .ensures) (sym (k .check .ensures) ∙ ap checked (c .enum-told .given .1)) in
+    omega (arith, p .same .0, p .slots .1)
+
+legal-requires : tie.Need-legal-requires
+legal-requires c κs = passed c
+
+returns-2 : tie.Need-returns-2
+returns-2 c = search judging depth 7
+
+count-requires : tie.Need-count-requires
+count-requires c κs = passed (c .before .before) .1
+
+returns-3 : tie.Need-returns-3
+returns-3 c = search judging depth 7
+
+returns-4 : tie.Need-returns-4
+returns-4 c = search judging depth 7
+
+returns-5 : tie.Need-returns-5
+returns-5 c = search judging depth 7
+
+pub judge-spec : {M : Type 1} → statement M
+judge-spec =
+    tie.close
+    (tie.spec
+    differ-requires
+    check-requires
+    enum-known-checked
+    returns
+    enum-told
+    legal-requires
+    returns-2
+    count-requires
+    returns-3
+    returns-4
+    returns-5)

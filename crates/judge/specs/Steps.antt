@@ -1,0 +1,27 @@
+-- What the private functions of the module marks promise: the public contract does not rest on it.
+use Prim.Native.Nat.{ℕ, _+_}
+use mathlib.Core.Bool.{Bool, cond, not, _&&_}
+use lib.Dec.{leb, eqb}
+use Rattle.rule.specs.Reading.{slotsAfter, bridgesAfter, advanced}
+use Rattle.rule.specs.Rule.{goesWith, follows}
+use Rattle.rule.specs.declared.Reading.{Reading}
+use Rattle.judge.specs.declared.marks.Counts.{Counts}
+use Rattle.judge.specs.declared.marks.Step.{Step}
+use Rattle.judge.specs.declared.marks.Step.the-variants.{On, Broken}
+
+-- a slot's mark m keeps the rule so far
+unfoldable pub passes : (len h : ℕ) → Reading → (over : Bool) (m : ℕ) → Bool
+passes len h at o m =
+    goesWith o m
+    && follows (at .mark) m
+    && leb (slotsAfter (at .slots) m) len
+    && leb (bridgesAfter (at .bridges) m) h
+
+unfoldable pub stepOf : (len h : ℕ) → Reading → (over : Bool) (m : ℕ) → Step
+stepOf len h at o m = cond (passes len h at o m) (On (advanced at m)) Broken
+
+abbrev pub countedOf : Counts → ℕ → Counts
+countedOf seen m = record {
+  windows = cond (eqb m 1) (seen .windows + 1) (seen .windows);
+  covered = cond (not (eqb m 0)) (seen .covered + 1) (seen .covered);
+}

@@ -1,0 +1,4 @@
+pub mod Coding
+pub mod Filling
+mod Lending
+pub mod Scanning

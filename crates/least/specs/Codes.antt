@@ -1,0 +1,13 @@
+-- Classes as the code holds them: a byte a slot.
+use Prim.Native.Nat.{ℕ}
+use mathlib.Core.Bool.{cond}
+use mathlib.Core.List.{List, map}
+use lib.Dec.{eqb}
+use Rattle.rule.specs.Ranges.{Class, under-only, over-only, either}
+
+-- 0 is under only, 1 over only, and any other byte open
+unfoldable pub coded : ℕ → Class
+coded m = cond (eqb m 0) under-only (cond (eqb m 1) over-only either)
+
+abbrev pub decoded : List ℕ → List Class
+decoded = map coded

@@ -1,0 +1,48 @@
+-- What is promised of rows, in the words of `best`.
+use Prim.Native.Nat.{ℕ, _+_, _-_, _≤_, min}
+use mathlib.Core.Bool.{Bool, cond}
+use mathlib.Core.List.{List}
+use mathlib.Core.Path.{_≡_}
+use lib.Dec.{eqb}
+use lib.ListN.{length, drop, getD}
+use Rattle.rule.specs.Ranges.{Class, allows}
+use Rattle.settings.specs.declared.Settings.{Settings}
+use Rattle.requests.specs.Best.{spend, best, onward, fewest}
+use Rattle.requests.specs.Solution.{sentinel}
+use Rattle.least.specs.declared.Going.{Going}
+
+-- the least covered count of the slots from i on, with at most w windows
+abbrev pub leastFrom : Settings → List Class → (i w : ℕ) → ℕ
+leastFrom s cs i w = best sentinel (s .len - 1) (s .h) (drop i cs) w
+
+-- the same in a window that has its first slot right before and goes on
+abbrev pub onwardFrom : Settings → List Class → (i w : ℕ) → ℕ
+onwardFrom s cs i w = onward sentinel (s .len - 1) (s .h) (drop i cs) (s .len - 1) (s .h) w
+
+-- the first of the window counts below w with which the covered maximum is kept, or w
+abbrev pub firstBelow : Settings → List Class → (w : ℕ) → ℕ
+firstBelow s cs w = fewest sentinel (s .len - 1) (s .h) cs (s .covered .most) 0 w
+
+-- The row holds what comes behind a window, where at most w windows are left with it: for each slot the least covered count of
+-- the slots from there on, with one window fewer. Where w is 0 there is no plan.
+pub record Behind (s : Settings) (cs : List Class) (w : ℕ) (row : List ℕ) : Type 0 where
+  pub wide : length row ≡ 65
+  pub counts : (i : ℕ) → i ≤ length cs → getD row i 0 ≡ spend sentinel w (leastFrom s cs i)
+
+-- A window one slot on, with the least covered count of what comes behind that slot. One that can be over is taken as over, and the
+-- window may close there; any other is a bridge, where one is left.
+abbrev pub goneOn : (over : Bool) (slots bridges covered least behind : ℕ) → Going
+goneOn over slots bridges covered least behind =
+    cond over
+    (record {
+      slots = slots - 1;
+      bridges = bridges;
+      covered = covered + 1;
+      least = min least (min sentinel (covered + 1 + behind));
+    })
+    (cond (eqb bridges 0)
+    (record { slots = 0; bridges = 0; covered = covered; least = least })
+    (record { slots = slots - 1; bridges = bridges - 1; covered = covered + 1; least = least }))
+
+abbrev pub wentOn : Going → Class → (behind : ℕ) → Going
+wentOn g c behind = goneOn (allows c 2) (g .slots) (g .bridges) (g .covered) (g .least) behind

@@ -1,0 +1,45 @@
+-- Marks that are legal for load ranges (document 01, "A plan as marks"), and the same by what each slot can be.
+use Prim.Native.Nat.{ℕ}
+use mathlib.Core.Bool.{Bool, true, false, cond, _||_}
+use mathlib.Core.List.{List, [], _∷_}
+use mathlib.Core.Path.{_≡_}
+use lib.IntN.{ℤ}
+use lib.Signed.{_≤ℤ_}
+use Rattle.rule.specs.Rule.{over, goesWith, legal}
+
+-- a slot's load range ("From load ranges to windows")
+pub record Range : Type 0 where
+  pub lowest : ℤ
+  pub highest : ℤ
+
+-- no lowest load is above its highest
+abbrev pub Proper : List Range → Type 0
+Proper [] = Unit
+Proper (r ∷ rs) = (r .lowest ≤ℤ r .highest) × Proper rs
+
+-- a choice of loads in the ranges
+abbrev pub ChosenIn : List Range → List ℤ → Type 0
+ChosenIn [] [] = Unit
+ChosenIn [] (x ∷ xs) = ⊥
+ChosenIn (r ∷ rs) [] = ⊥
+ChosenIn (r ∷ rs) (x ∷ xs) = (r .lowest ≤ℤ x) × (x ≤ℤ r .highest) × ChosenIn rs xs
+
+-- legal for ranges: legal for some choice of loads in them
+abbrev pub LegalFor : (k : ℤ) (len h : ℕ) → List Range → List ℕ → Type 0
+LegalFor k len h ranges marks = (loads : List ℤ) × ChosenIn ranges loads × (legal k len h loads marks ≡ true)
+
+-- what a slot can be: under, over, or both, in which case it is open, in document 01's term ("Words of demand 3")
+pub data Class : Type 0 where
+  under-only : Class
+  over-only : Class
+  either : Class
+
+-- the class of a range whose lowest load is not above its highest
+unfoldable pub classOf : ℤ → Range → Class
+classOf k r = cond (over k (r .lowest)) over-only (cond (over k (r .highest)) either under-only)
+
+-- the marks that go with some load of the class
+unfoldable pub allows : Class → ℕ → Bool
+allows under-only m = goesWith false m
+allows over-only m = goesWith true m
+allows either m = goesWith false m || goesWith true m

@@ -1,0 +1,18 @@
+// The rule of plans: its definitions in specs/, what follows from them in proofs/. Beside them stands what code above shares: the
+// test of a load, and where a reading of marks stands.
+ghost use mathlib.Core.Path.{_≡_};
+ghost use Rattle.rule.specs.Rule.{over as Rule·over};
+
+// Whether a load is over the threshold k.
+pub fn over(k: i32, load: i32) -> bool
+    ensures { λ r. ⌜ r ≡ Rule·over k load ⌝ }
+{
+    load > k
+}
+
+// The mark before, 0 at the start, and the slots and bridges so far of the window that the reading lies in.
+pub struct Reading {
+    pub mark: u8,
+    pub slots: u16,
+    pub bridges: u16,
+}

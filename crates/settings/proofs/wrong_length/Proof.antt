@@ -1,0 +1,16 @@
+-- `settings::wrong_length` meets its contract: its tests are the row's.
+use Rattle.facts.proofs.Rules.{rules}
+use Rattle.settings.specs.Refusals
+use Rattle.settings.proofs.wrong_length.Statement.{statement}
+use Rattle.settings.proofs.wrong_length.Tie as tie
+
+returns : tie.Need-returns
+unfolding Refusals.wrongLength
+returns c = search rules
+
+returns-2 : tie.Need-returns-2
+unfolding Refusals.wrongLength
+returns-2 c = search rules
+
+pub wrong-length-spec : {M : Type 1} → statement M
+wrong-length-spec = tie.close (tie.spec returns returns-2)

@@ -1,0 +1,62 @@
+-- `watch::Watch::alive` meets its contract: its tests are the parts of `Alive`, and its product is small (`Testing`).
+use Prim.Native.Nat.{_*_, _-_, _≤_}
+use native.Mathlib.Omega.{arith}
+use borrow.Author.Needs.{needs}
+use Rattle.settings.specs.Refusals.{limit}
+use Rattle.watch.proofs.Testing.{no, small}
+use Rattle.watch.specs.States.{most}
+use Rattle.watch.proofs.Watch.alive.Statement.{statement}
+use Rattle.watch.proofs.Watch.alive.Tie as tie
+
+returns : tie.Need-returns
+returns c = no (λ a. omega (arith, a .opened))
+
+returns-2 : tie.Need-returns-2
+returns-2 c = no (λ a. omega (arith, a .slots))
+
+returns-3 : tie.Need-returns-3
+returns-3 c = no (λ a. omega (arith, a .bridges))
+
+sub-before : tie.Need-sub-before
+sub-before c = search needs
+
+shortest-requires : tie.Need-shortest-requires
+shortest-requires c κs = search needs
+
+abbrev entry : tie.After-struct-known4 → tie.Start
+entry c = c .before .before .before .before .before .before .before
+
+bounded : (c : tie.After-shortest) → (entry (c .before) .args .self .windows - 1) * c .shortest .result ≤ most * limit
+bounded c = rw (c .shortest .ensures) (small (entry (c .before) .pre .0) (entry (c .before) .args .self .windows - 1) (omega arith))
+
+mul-before : tie.Need-mul-before
+mul-before c = omega (arith, bounded c)
+
+sub-fits : tie.Need-sub-fits
+sub-fits c = search needs
+
+fits-requires : tie.Need-fits-requires
+fits-requires c κs = bounded (c .before .before)
+
+returns-4 : tie.Need-returns-4
+returns-4 c =
+    let (to, from) = rw (c .before .before .before .shortest .ensures) at (c .fits2 .ensures) in (
+      (λ e.
+          let (used, each) = to e in
+          record { opened = omega arith; slots = omega arith; bridges = omega arith; used = used; each = each }),
+      (λ a. from (a .used, a .each)),
+    )
+
+pub alive-spec : {M : Type 1} → statement M
+alive-spec =
+    tie.close
+    (tie.spec
+    returns
+    returns-2
+    returns-3
+    sub-before
+    shortest-requires
+    mul-before
+    sub-fits
+    fits-requires
+    returns-4)

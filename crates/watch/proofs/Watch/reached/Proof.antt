@@ -1,0 +1,104 @@
+-- `watch::Watch::reached` meets its contract: its tests add up to what loads lead to (`Testing`).
+use native.Mathlib.Omega.{arith}
+use mathlib.Core.Bool.{true, true≢false}
+use mathlib.Core.Logic.{_⊎_}
+use mathlib.Core.Option.{Option·some-ne-none}
+use mathlib.Core.Path.{_≡_, ap, sym, _∙_}
+use borrow.Author.Needs.{needs}
+use borrow.Author.Tests.{not-true, not-false}
+use mir.Syntax.{w32}
+use mir.Val.{SFits}
+use Rattle.settings.specs.Refusals.{checked}
+use Rattle.rule.specs.Rule.{over}
+use Rattle.watch.proofs.Reaching.{reached→sound}
+use Rattle.watch.proofs.Testing.{no, counted, by-idle, by-alive}
+use Rattle.watch.specs.States.{Reached}
+use Rattle.watch.specs.Tested.{highest, Tallied}
+use Rattle.watch.proofs.Watch.reached.Statement.{statement}
+use Rattle.watch.proofs.Watch.reached.Tie as tie
+
+-- the entry, from where the settings have passed; and that, from where the counts have
+abbrev entry : tie.After-enum-told2 → tie.Start
+entry c = c .before .before .before .before
+
+abbrev passed : tie.Else2 → tie.After-enum-told2
+passed c = c .before .before .before .before
+
+check-settings-requires : tie.Need-check-settings-requires
+check-settings-requires c κs = search needs
+
+enum-told : tie.Need-enum-told
+enum-told c = search needs
+
+returns : tie.Need-returns
+returns c = no refuses
+  where
+    refuses : Reached (c .before .before .before .before .args .self) → ⊥
+    refuses re =
+        let is = c .before .before .check-settings .ensures in
+        Option·some-ne-none _ (sym (ap checked (c .enum-told .given .1)) ∙ is ∙ reached→sound _ re .accepted)
+
+enum-told-2 : tie.Need-enum-told-2
+enum-told-2 c = search needs
+
+returns-2 : tie.Need-returns-2
+returns-2 c = no (λ re. omega (arith, reached→sound _ re .few))
+
+returns-3 : tie.Need-returns-3
+returns-3 c = no (λ re. omega (arith, counted (reached→sound _ re)))
+
+may-open-requires : tie.Need-may-open-requires
+may-open-requires c κs = search needs
+
+returns-4 : tie.Need-returns-4
+returns-4 c = no shut
+  where
+    shut : Reached (c .before .before .before .before .before .before .before .before .before .before .args .self) → ⊥
+    shut re = true≢false (sym (c .before .may-open .ensures .1 (reached→sound _ re .opens)) ∙ not-true _ (c .if3 .taken))
+
+tallied : (c : tie.Else2) → Tallied (entry (passed c) .args .self)
+tallied c =
+    record {
+      accepted = sym (passed c .before .before .check-settings .ensures) ∙ ap checked (passed c .enum-told2 .given .1);
+      counted = c .if2 .left;
+      few = c .before .before .if1 .left;
+    }
+
+opens : (c : tie.Else3) → let w = entry (passed (c .before .before)) .args .self in (w .windows ≡ 0) ⊎ (over (w .k) highest ≡ true)
+opens c = c .before .may-open .ensures .0 (not-false _ (c .if3 .left))
+
+fits : (c : tie.After-enum-told2) → SFits w32 (entry c .args .self .k)
+fits c = record { sfits = c .before .before .before .struct-told .given .0 .1 }
+
+idle-requires : tie.Need-idle-requires
+idle-requires c κs = (tallied (c .before .before .before .before), c .if4 .taken)
+
+returns-5 : tie.Need-returns-5
+returns-5 c =
+    let k = c .before .before .before in
+    by-idle (fits (passed (k .before .before))) (tallied (k .before .before)) (opens k) (c .before .if4 .taken) (c .idle .ensures)
+
+alive-requires : tie.Need-alive-requires
+alive-requires c κs = (tallied (c .before .before .before .before), omega (arith, c .if4 .left))
+
+returns-6 : tie.Need-returns-6
+returns-6 c =
+    let k = c .before .before .before in
+    by-alive (fits (passed (k .before .before))) (tallied (k .before .before)) (opens k) (c .before .if4 .left) (c .alive .ensures)
+
+pub reached-spec : {M : Type 1} → statement M
+reached-spec =
+    tie.close
+    (tie.spec
+    check-settings-requires
+    enum-told
+    returns
+    enum-told-2
+    returns-2
+    returns-3
+    may-open-requires
+    returns-4
+    idle-requires
+    returns-5
+    alive-requires
+    returns-6)
