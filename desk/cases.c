@@ -62,9 +62,7 @@ static bool as_worked(const struct worked *c, const struct icecoppice_answer *a,
     }
     if (c->marks[0] != ANY && memcmp(after->marks + MARGIN, c->marks, c->n) != 0)
         return false;
-    return a->code == c->answer.code && a->slot == c->answer.slot &&
-           a->windows_least == c->answer.windows_least && a->windows_most == c->answer.windows_most &&
-           a->covered_least == c->answer.covered_least && a->covered_most == c->answer.covered_most;
+    return same_answer(a, &c->answer);
 }
 
 /* Loads 5, 1, 5 with len 3: one window at k = 0, two at k = 1. */

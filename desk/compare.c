@@ -48,7 +48,7 @@ static void print_answer(const char *whose, const struct icecoppice_answer *a)
            a->windows_least, a->windows_most, a->covered_least, a->covered_most);
 }
 
-static bool same_answer(const struct icecoppice_answer *a, const struct icecoppice_answer *b)
+bool same_answer(const struct icecoppice_answer *a, const struct icecoppice_answer *b)
 {
     return a->code == b->code && a->slot == b->slot &&
            a->windows_least == b->windows_least && a->windows_most == b->windows_most &&
@@ -84,7 +84,7 @@ struct icecoppice_answer ask_filter(struct request *r)
     return a;
 }
 
-struct icecoppice_verdict ask_judge(const struct request *r)
+static struct icecoppice_verdict ask_judge(const struct request *r)
 {
     struct request given = *r;
     const struct settings *s = &r->settings;

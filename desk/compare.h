@@ -18,9 +18,10 @@ struct request {
 /* A request without slots or settings, its buffers filled with a pattern. */
 struct request blank_request(void);
 
-/* Ask the library alone. Whatever lies beside the slices has to stay as it is. */
+/* Asks the library alone. Whatever lies beside the slices has to stay as it is. */
 struct icecoppice_answer ask_filter(struct request *r);
-struct icecoppice_verdict ask_judge(const struct request *r);
+
+bool same_answer(const struct icecoppice_answer *a, const struct icecoppice_answer *b);
 
 /* Ask both, and hold every field of the answer and every entry of the slices to the search. */
 struct icecoppice_answer compare_filter(struct request *r);

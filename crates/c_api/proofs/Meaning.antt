@@ -1,44 +1,41 @@
 -- What a caller can tell from the numbers of the filter's answer and of the judge's.
-use Prim.Native.Nat.{ℕ, _≤_}
-use native.Mathlib.Omega.{arith}
-use mathlib.Core.List.{List, [], _∷_}
-use mathlib.Core.Option.{Option, none, some, Option·some-injective, Option·some-ne-none}
-use mathlib.Core.Path.{_≡_, refl, sym, ap, _∙_, subst}
+use Prim.Native.Nat.{ℕ}
+use mathlib.Core.List.{List}
+use mathlib.Core.Path.{_≡_, refl, ap, _∙_, subst}
 use lib.IntN.{ℤ}
-use lib.ListN.{length}
-use Rattle.settings.proofs.Rows.{from-21}
-use Rattle.settings.specs.Refusals.{refusal}
+use Rattle.settings.proofs.Passing.{from-21}
 use Rattle.settings.specs.declared.Settings.{Settings}
 use Rattle.judge.proofs.Allowing.{refusing}
-use Rattle.requests.proofs.Outcomes.{refused-so, says-none, planned-where}
-use Rattle.requests.specs.Promise.{refuses, Outcome}
-use Rattle.requests.specs.Request.{Request, slots, ranges, Refused, crossed, behind, refused}
-use Rattle.c_api.specs.Numbers.{answerOf, verdictOf, Answered, Means, VerdictMeans}
+use Rattle.requests.proofs.Outcomes.{number, number-from-21, unaltered-so, refused-so, says-none, planned-where}
+use Rattle.requests.specs.Promise.{refuses, Unaltered, Planned}
+use Rattle.requests.specs.Request.{Request, Refused, numbered, at-slot}
+use Rattle.c_api.specs.Numbers.{answerOf, verdictOf, outcome, Answered, Means, VerdictMeans}
 use Rattle.c_api.specs.declared.AnswerNumbers.{AnswerNumbers}
 
--- a refusal's number is none of the other codes
-numbered-from-21 : (r : Request) (f : Refused) → refused r ≡ some f → 21 ≤ answerOf (refuses f) .code
-unfolding refused
-numbered-from-21 r f e = by (refusal (slots r) others (r .settings)) (crossed 0 (ranges r)) refl e
-  where
-    others : List ℕ
-    others = length (r .highest) ∷ length (r .marks) ∷ []
-
-    by : (a b : Option ℕ) → refusal (slots r) others (r .settings) ≡ a → behind a b ≡ some f → 21 ≤ answerOf (refuses f) .code
-    by (some n) b i e = subst (λ f. 21 ≤ answerOf (refuses f) .code) (Option·some-injective _ _ e) (from-21 _ _ (r .settings) i)
-    by none (some slot) i e = subst (λ f. 21 ≤ answerOf (refuses f) .code) (Option·some-injective _ _ e) (omega arith)
-    by none none i e = absurd (Option·some-ne-none _ (sym e))
+code-is : (f : Refused) → answerOf (refuses f) .code ≡ number f
+code-is (numbered n) = refl
+code-is (at-slot n slot) = refl
 
 pub means : {r : Request} {numbers : AnswerNumbers} {los his : List ℤ} {ms : List ℕ} → Answered r numbers los his ms →
-    Means r numbers
+    Means r numbers los his ms
 means {r} {los = los} {his} {ms} a =
-    let o : Outcome = record { answer = a .answer; lowest = los; highest = his; marks = ms } in
+    let o = outcome (a .answer) los his ms in
+    let unaltered = unaltered-so r o (a .kept) in
     record {
       refusal = λ f e.
-          let is = a .is ∙ ap answerOf (refused-so r o (a .kept) f .1 e) in
-          (is, rw is (numbered-from-21 r f e));
-      none = λ w n. a .is ∙ ap answerOf (says-none r o (a .kept) w n);
-      plan = λ w ms p. rw (a .is, planned-where r o (a .kept) w ms p .answer) refl;
+          let so = refused-so r o (a .kept) f .1 e in
+          let is = a .is ∙ ap answerOf so in
+          (is, rw (is, code-is f) (number-from-21 r f e), subst (λ a. Unaltered r (outcome a los his ms)) so (unaltered .1 f so));
+      none = λ w n.
+          let so = says-none r o (a .kept) w n in
+          (a .is ∙ ap answerOf so, subst (λ a. Unaltered r (outcome a los his ms)) so (unaltered .0 so));
+      plan = λ w ps p.
+          let i = planned-where r o (a .kept) w ps p in (
+            i .windows,
+            i .covered,
+            a .is ∙ ap answerOf (i .answer),
+            subst (λ a. Planned r (i .windows) (i .covered) (outcome a los his ms)) (i .answer) (i .promise),
+          );
     }
 
 pub verdict-means : (s : Settings) (loads : List ℤ) (marks : List ℕ) → VerdictMeans s loads marks

@@ -6,8 +6,9 @@ use mathlib.Core.Option.{some}
 use mathlib.Core.Path.{_≡_}
 use lib.IntN.{ℤ}
 use Rattle.judge.specs.Judgment.{Judgment, says, refuses as judge-refuses, judgment}
+use Rattle.settings.specs.declared.CountRange.{CountRange}
 use Rattle.settings.specs.declared.Settings.{Settings}
-use Rattle.requests.specs.Promise.{Answer, refuses, no-plan, planned, NoPlan, Keeps}
+use Rattle.requests.specs.Promise.{Answer, refuses, no-plan, planned, Outcome, Unaltered, Planned, NoPlan, Keeps}
 use Rattle.requests.specs.Request.{Request, Refused, numbered, at-slot, refused, WellFormed, PlanOf}
 use Rattle.c_api.specs.declared.AnswerNumbers.{AnswerNumbers}
 use Rattle.c_api.specs.declared.VerdictNumbers.{VerdictNumbers}
@@ -41,18 +42,24 @@ verdictOf (says true w c) = record { code = 0; windows = w; covered = c }
 verdictOf (says false w c) = record { code = 1; windows = w; covered = c }
 verdictOf (judge-refuses n) = record { code = n; windows = 0; covered = 0 }
 
+abbrev pub outcome : Answer → (lowest highest : List ℤ) (marks : List ℕ) → Outcome
+outcome a los his ms = record { answer = a; lowest = los; highest = his; marks = ms }
+
 -- The numbers are those of an answer that keeps the filter's promise, with what the slices hold then. What a caller can tell
 -- from them is `Means` (proofs/Meaning.antt).
 pub record Answered (r : Request) (numbers : AnswerNumbers) (lowest highest : List ℤ) (marks : List ℕ) : Type 0 where
   pub answer : Answer
   pub is : numbers ≡ answerOf answer
-  pub kept : Keeps r (record { answer = answer; lowest = lowest; highest = highest; marks = marks })
+  pub kept : Keeps r (outcome answer lowest highest marks)
 
--- What a request gives is in its numbers: exactly one of the three applies, and no two of them share a code.
-pub record Means (r : Request) (numbers : AnswerNumbers) : Type 0 where
-  pub refusal : (f : Refused) → refused r ≡ some f → (numbers ≡ answerOf (refuses f)) × (21 ≤ numbers .code)
-  pub none : WellFormed r → NoPlan r → numbers ≡ answerOf no-plan
-  pub plan : WellFormed r → (ms : List ℕ) → PlanOf r ms → numbers .code ≡ 0
+-- What a request gives is in its numbers and in the slices: exactly one of the three applies, and no two of them share a code.
+pub record Means (r : Request) (numbers : AnswerNumbers) (lowest highest : List ℤ) (marks : List ℕ) : Type 0 where
+  pub refusal : (f : Refused) → refused r ≡ some f →
+      (numbers ≡ answerOf (refuses f)) × (21 ≤ numbers .code) × Unaltered r (outcome (refuses f) lowest highest marks)
+  pub none : WellFormed r → NoPlan r → (numbers ≡ answerOf no-plan) × Unaltered r (outcome no-plan lowest highest marks)
+  pub plan : WellFormed r → (ms : List ℕ) → PlanOf r ms →
+      (w : CountRange) × (c : CountRange)
+      × (numbers ≡ answerOf (planned w c)) × Planned r w c (outcome (planned w c) lowest highest marks)
 
 -- What the judge says is in its numbers too.
 pub record VerdictMeans (s : Settings) (loads : List ℤ) (marks : List ℕ) : Type 0 where

@@ -5,10 +5,11 @@ use mathlib.Core.Logic.{_↔_}
 use mathlib.Core.Option.{none}
 use mathlib.Core.Path.{_≡_}
 use lib.IntN.{ℤ, pos}
-use Rattle.watch.specs.Promise.{Start, watches, refuses, starting, Step, takes, refuses-with, told, Steps}
+use Rattle.refusals.specs.Answer.{Answer, refuses, gives}
+use Rattle.watch.specs.Promise.{starting, Step, takes, refuses-with, told, Steps}
 use Rattle.watch.specs.States.{startRefusal}
 use Rattle.watch.specs.declared.Watch.{Watch}
-use Rattle.watch.specs.declared.step.Answer.{Answer}
+use Rattle.watch.specs.declared.step.Answer.{Answer as step·Answer}
 use Rattle.watch.specs.declared.step.Stepped.{Stepped}
 use Rattle.c_api.specs.declared.watches.StartNumbers.{StartNumbers}
 use Rattle.c_api.specs.declared.watches.StepNumbers.{StepNumbers}
@@ -17,8 +18,8 @@ use Rattle.c_api.specs.declared.watches.StepNumbers.{StepNumbers}
 abbrev pub noWatch : Watch
 noWatch = record { k = pos 0; len = 0; h = 0; taken = 0; windows = 0; room = 0; spare = 0 }
 
-abbrev pub startOf : Start → StartNumbers
-startOf (watches w) = record { code = 0; watch = w }
+abbrev pub startOf : Answer Watch → StartNumbers
+startOf (gives w) = record { code = 0; watch = w }
 startOf (refuses n) = record { code = n; watch = noWatch }
 
 -- a step: 0 with whether the load opened a window, else the refusal's number; and the state
@@ -38,4 +39,4 @@ abbrev pub StartMeans : Type 0
 StartMeans = (k : ℤ) (len h : ℕ) → (startOf (starting k len h) .code ≡ 0) ↔ (startRefusal len h ≡ none)
 
 abbrev pub StepMeans : Type 0
-StepMeans = (a b : Answer) (v w : Watch) → stepOf (told a) v ≡ stepOf (told b) w → (a ≡ b) × (v ≡ w)
+StepMeans = (a b : step·Answer) (v w : Watch) → stepOf (told a) v ≡ stepOf (told b) w → (a ≡ b) × (v ≡ w)

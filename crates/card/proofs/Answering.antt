@@ -1,33 +1,16 @@
--- Which answer the rows of a file and one row more lead to.
+-- What the reader and the look-up refuse with, and what the reader hands back by what it answers.
 use Prim.Native.Nat.{ℕ}
-use mathlib.Core.Bool.{Bool, true, false}
-use mathlib.Core.List.{List, [], _++_}
+use mathlib.Core.List.{List, _++_}
 use mathlib.Core.Logic.{_↔_}
-use mathlib.Core.Option.{none, some}
-use mathlib.Core.Path.{_≡_, refl, sym, ap, _∙_}
+use mathlib.Core.Option.{some}
+use mathlib.Core.Path.{_≡_, refl}
 use lib.IntN.{ℤ}
 use lib.ListN.{drop}
-use Rattle.settings.proofs.Rows.{given, passed, none-left, earlier, later}
-use Rattle.settings.specs.Refusals.{Row, row, first}
-use Rattle.form1.proofs.Opening.{refused-by}
-use Rattle.form1.specs.Form1.{rangeOf, each, fileRows, refusal}
-use Rattle.form1.specs.Opening.{refuses, gives, answer}
+use Rattle.refusals.proofs.Answer.{refused-by}
+use Rattle.refusals.specs.Answer.{refuses, gives}
+use Rattle.refusals.specs.Table.{row}
+use Rattle.form1.specs.Form1.{rangeOf, each, refusal}
 use Rattle.card.specs.Reading.{Header, lentTooShort, reads, reading, noSlot, looking}
-
-module _ {A : Type 0} (file : List ℕ) (asked : A) where
-  pub refuses-early : (last : Row) {n : ℕ} → first (fileRows file) ≡ some n → answer (refusal last file) asked ≡ refuses n
-  unfolding refusal
-  refuses-early last e = ap (λ r. answer r asked) (earlier (fileRows file) _ e)
-
-  module _ (number : ℕ) (applies : Bool) (pass : first (fileRows file) ≡ none) where
-    pub refuses-last : applies ≡ true → answer (refusal (row number applies) file) asked ≡ refuses number
-    unfolding refusal
-    refuses-last e = ap (λ r. answer r asked) (later (fileRows file) _ pass ∙ sym (given number applies [] applies refl e))
-
-    pub gives-asked : applies ≡ false → answer (refusal (row number applies) file) asked ≡ gives asked
-    unfolding refusal
-    gives-asked e =
-        ap (λ r. answer r asked) (later (fileRows file) _ pass ∙ sym (passed number applies [] applies refl e none-left))
 
 -- each refuses with the number that is given, and in no other situation
 pub reader-refuses : (file : List ℕ) (los his : List ℤ) (n : ℕ) →
@@ -40,7 +23,6 @@ pub look-up-refuses : (slot : ℕ) (file : List ℕ) (n : ℕ) →
 unfolding looking
 look-up-refuses slot file n = refused-by (refusal (row 19 (noSlot slot file)) file) _ n
 
--- what the reader hands back, by what it answers
 module _ (file : List ℕ) (los his : List ℤ) where
   pub nothing-altered : {n : ℕ} → reads los his file ≡ refuses n →
       record { answer = refuses n; lowest = los; highest = his } ≡ reading file los his

@@ -7,10 +7,11 @@ use lib.Dec.{leb, ltb}
 use lib.IntN.{ℤ, pos}
 use lib.ListN.{length, getD, drop}
 use Rattle.rule.specs.Ranges.{Range}
-use Rattle.settings.specs.Refusals.{row}
+use Rattle.refusals.specs.Answer.{Answer, refuses, gives, answer}
+use Rattle.refusals.specs.Numbers.{fileNumber}
+use Rattle.refusals.specs.Table.{row}
 use Rattle.settings.specs.declared.Settings.{Settings}
 use Rattle.form1.specs.Form1.{slots, settings, rangeOf, each, refusal}
-use Rattle.form1.specs.Opening.{number, Answer, refuses, gives, answer}
 use Rattle.card.specs.declared.Reading.{Reading}
 use Rattle.card.specs.declared.Reading.the-variants.{Refused as Reading·Refused, Taken}
 use Rattle.card.specs.declared.Found.{Found}
@@ -28,7 +29,7 @@ pub record Header : Type 0 where
   pub n : ℕ
 
 abbrev pub told : Reading → Answer Header
-told (Reading·Refused r) = refuses (number r)
+told (Reading·Refused r) = refuses (fileNumber r)
 told (Taken s n) = gives (record { settings = s; n = n })
 
 -- all that comes back: the answer, and what both slices hold then
@@ -67,7 +68,7 @@ unfoldable pub noSlot : (slot : ℕ) → List ℕ → Bool
 noSlot slot file = leb (slots file) slot
 
 abbrev pub shown : Found → Answer Range
-shown (Found·Refused r) = refuses (number r)
+shown (Found·Refused r) = refuses (fileNumber r)
 shown (Record lo hi) = gives (record { lowest = lo; highest = hi })
 
 -- it depends on nothing but the bytes and the slot number

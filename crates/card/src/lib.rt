@@ -3,8 +3,8 @@ ghost use mathlib.Core.Path.{_≡_};
 ghost use Rattle.card.specs.Reading.{handed, reading};
 use crate::records::fill;
 use form1::Opened;
-use form1::Refusal;
 use form1::open;
+use refusals::FileRefusal;
 use settings::Settings;
 
 mod lookup;
@@ -14,13 +14,13 @@ pub use lookup::look_up;
 
 // What the reader answers besides the loads.
 pub enum Reading {
-    Refused(Refusal),
+    Refused(FileRefusal),
     Taken { settings: Settings, n: usize },
 }
 
 // What a look-up answers.
 pub enum Found {
-    Refused(Refusal),
+    Refused(FileRefusal),
     Record { lowest: i32, highest: i32 },
 }
 
@@ -35,10 +35,10 @@ pub fn read(file: &[u8], lowest: &mut [i32], highest: &mut [i32]) -> Reading
         Opened::Whole(contents) => {
             let n = contents.n;
             if lowest.len() < n {
-                return Reading::Refused(Refusal::Lent);
+                return Reading::Refused(FileRefusal::Lent);
             }
             if highest.len() < n {
-                return Reading::Refused(Refusal::Lent);
+                return Reading::Refused(FileRefusal::Lent);
             }
             fill(file, contents.start, n, lowest, highest);
             let settings = contents.settings;

@@ -4,9 +4,9 @@ ghost use Rattle.card.specs.Reading.{shown, looking};
 use crate::Found;
 use form1::Opened;
 use form1::RECORD;
-use form1::Refusal;
 use form1::open;
 use form1::range_at;
+use refusals::FileRefusal;
 
 // Gives the first refusal that applies, or the load range of the slot.
 pub fn look_up(file: &[u8], slot: usize) -> Found
@@ -16,7 +16,7 @@ pub fn look_up(file: &[u8], slot: usize) -> Found
         Opened::Refused(refusal) => Found::Refused(refusal),
         Opened::Whole(contents) => {
             if contents.n <= slot {
-                return Found::Refused(Refusal::Slot);
+                return Found::Refused(FileRefusal::Slot);
             }
             let bounds = range_at(file, contents.start + RECORD * slot);
             Found::Record {

@@ -8,15 +8,15 @@ ghost use lib.Signed.{ltZ};
 ghost use Rattle.settings.specs.Refusals.{wrongOther};
 ghost use Rattle.requests.specs.Request.{asked, behind, crossed, paired, refused};
 ghost use Rattle.checks.specs.Forming.{told};
+use refusals::SettingsRefusal;
 use settings::Checked;
-use settings::Refusal;
 use settings::Settings;
 use settings::check;
 
 // A request is well formed, or refused. Crossed is refusal 31, with the first slot whose lowest load is above its highest.
 pub enum Formed {
     Well,
-    Refused(Refusal),
+    Refused(SettingsRefusal),
     Crossed(usize),
 }
 

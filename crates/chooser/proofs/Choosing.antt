@@ -1,61 +1,85 @@
--- What the chooser can hand back: one of the two plans, to which the judge says yes, or the empty part.
-use Prim.Native.Nat.{ℕ}
-use mathlib.Core.Bool.{true, false}
+-- What the chooser can hand back, by what the judge says of the two plans.
+use Prim.Native.Nat.{ℕ, _+_, _≤_, _<_}
+use native.Mathlib.Omega.{arith}
+use mathlib.Core.Bool.{Bool, true, false, cond}
 use mathlib.Core.List.{List}
-use mathlib.Core.Logic.{_⊎_, inl, inr, ⊎-elim}
+use mathlib.Core.Logic.{_⊎_, inl, inr}
 use mathlib.Core.Path.{_≡_, refl, sym, ap, subst, _∙_}
 use denote.Ref.{RefT, now}
+use lib.Dec.{ltb}
 use lib.IntN.{ℤ}
+use lib.ListN.{length}
+use Rattle.settings.proofs.Passing.{passing}
 use Rattle.settings.specs.declared.Settings.{Settings}
+use Rattle.judge.proofs.Allowing.{said}
 use Rattle.judge.specs.Judgment.{Judgment, says, refuses, judgment}
-use Rattle.chooser.specs.Choice.{fewer, choice, EmptyPart, HandsBack, Chosen}
+use Rattle.chooser.specs.Choice.{fewer, choice, EmptyPart, HandsBack, Chosen, Yes, No, Refuses, Chooses}
 use Rattle.chooser.specs.declared.Choice.{Choice}
-use Rattle.chooser.specs.declared.Choice.the-variants.{First, Second, Neither}
+use Rattle.chooser.specs.declared.Choice.the-variants.{First, Second}
+
+-- of two plans one is chosen
+one-of : (w₁ c₁ w₂ c₂ : ℕ) → (fewer w₁ c₁ w₂ c₂ ≡ First) ⊎ (fewer w₁ c₁ w₂ c₂ ≡ Second)
+unfolding fewer
+one-of w₁ c₁ w₂ c₂ = by (ltb w₂ w₁) (ltb w₁ w₂) (ltb c₂ c₁)
+  where
+    by : (a b c : Bool) → let x = cond a Second (cond b First (cond c Second First)) in (x ≡ First) ⊎ (x ≡ Second)
+    by true b c = inr refl
+    by false true c = inl refl
+    by false false true = inr refl
+    by false false false = inl refl
+
+abbrev code : Judgment → ℕ
+code (says false w c) = 0
+code (says true w c) = 1
+code (refuses n) = 2
 
 module _ (s : Settings) (loads : List ℤ) (a b r : RefT (List ℕ)) where
   abbrev Says : RefT (List ℕ) → Judgment → Type 0
   Says x j = judgment s loads (now x) ≡ j
 
-  abbrev Yes : RefT (List ℕ) → Type 0
-  Yes x = (w : ℕ) × (c : ℕ) × Says x (says true w c)
-
   abbrev Plan : Type 0
-  Plan = ((r ≡ a) ⊎ (r ≡ b)) × Yes r
+  Plan = ((r ≡ a) ⊎ (r ≡ b)) × Yes s loads r
 
-  first : r ≡ a → Yes a → Plan
-  first e y = (inl e, subst Yes (sym e) y)
+  abbrev Cause : Type 0
+  Cause = Refuses s loads a ⊎ (Refuses s loads b ⊎ (No s loads a × No s loads b))
 
-  second : r ≡ b → Yes b → Plan
-  second e y = (inr e, subst Yes (sym e) y)
+  first : r ≡ a → Yes s loads a → Plan
+  first e y = (inl e, subst (Yes s loads) (sym e) y)
 
-  either : (x : Choice) → Yes a → Yes b → HandsBack x a b r → Plan ⊎ EmptyPart a r
-  either First y z e = inl (first e y)
-  either Second y z e = inl (second e z)
-  either Neither y z e = inr e
+  second : r ≡ b → Yes s loads b → Plan
+  second e y = (inr e, subst (Yes s loads) (sym e) y)
 
-  handed : (one two : Judgment) → Says a one → Says b two → HandsBack (choice one two) a b r → Plan ⊎ EmptyPart a r
-  handed (says true w c) (says true v d) i j e = either (fewer w c v d) (w, c, i) (v, d, j) e
-  handed (says true w c) (says false v d) i j e = inl (first e (w, c, i))
-  handed (says false w c) (says true v d) i j e = inl (second e (v, d, j))
-  handed (says false w c) (says false v d) i j e = inr e
-  handed (says true w c) (refuses n) i j e = inr e
-  handed (says false w c) (refuses n) i j e = inr e
-  handed (refuses n) two i j e = inr e
+  -- what the judge says yes to has a slot
+  not-empty : Plan → EmptyPart a r → ⊥
+  not-empty (_, (w, c, y)) (_, e) =
+      let pass = passing .0 (said s loads (now r) w c y .0) in
+      absurd (omega (arith, pass .slots .0, pass .same .0, ap length e))
 
-  pub plan-or-none : Chosen s loads a b r → Plan ⊎ EmptyPart a r
-  plan-or-none = handed _ _ refl refl
+  no-cause : (one two : Judgment) → Says a one → Says b two → code one < 2 → code two < 2 → 1 ≤ code one + code two → Cause → ⊥
+  no-cause one two i j f g h (inl (n, e)) = absurd (omega (arith, f, ap code (sym i ∙ e)))
+  no-cause one two i j f g h (inr (inl (n, e))) = absurd (omega (arith, g, ap code (sym j ∙ e)))
+  no-cause one two i j f g h (inr (inr ((w, c, d), (v, u, e)))) = absurd (omega (arith, h, ap code (sym i ∙ d), ap code (sym j ∙ e)))
 
-  behind-any : (one : Judgment) (n : ℕ) → choice one (refuses n) ≡ Neither
-  behind-any (says true w c) n = refl
-  behind-any (says false w c) n = refl
-  behind-any (refuses m) n = refl
+  plan-chosen : Plan → (Cause → ⊥) → Chooses s loads a b r
+  plan-chosen p none = record { handed = inl p; empty = ((λ e. absurd (not-empty p e)), λ cause. absurd (none cause)) }
 
-  -- any refusal leads to the empty part
-  pub none-where-refused : (n : ℕ) → Says a (refuses n) ⊎ Says b (refuses n) → Chosen s loads a b r → EmptyPart a r
-  none-where-refused n either c =
-      let none : choice (judgment s loads (now a)) (judgment s loads (now b)) ≡ Neither =
-      ⊎-elim
-      (λ i. ap (λ one. choice one (judgment s loads (now b))) i)
-      (λ j. ap (λ two. choice (judgment s loads (now a)) two) j ∙ behind-any (judgment s loads (now a)) n)
-      either in
-      subst (λ x. HandsBack x a b r) none c
+  none-chosen : Cause → EmptyPart a r → Chooses s loads a b r
+  none-chosen cause e = record { handed = inr e; empty = ((λ _. cause), λ _. e) }
+
+  either : (x : Choice) → (x ≡ First) ⊎ (x ≡ Second) → Yes s loads a → Yes s loads b → HandsBack x a b r → Plan
+  either x (inl is) y z e = first (subst (λ x. HandsBack x a b r) is e) y
+  either x (inr is) y z e = second (subst (λ x. HandsBack x a b r) is e) z
+
+  by : (one two : Judgment) → Says a one → Says b two → HandsBack (choice one two) a b r → Chooses s loads a b r
+  by (says true w c) (says true v d) i j e =
+      plan-chosen (either (fewer w c v d) (one-of w c v d) (w, c, i) (v, d, j) e)
+      (no-cause _ _ i j (omega arith) (omega arith) (omega arith))
+  by (says true w c) (says false v d) i j e = plan-chosen (first e (w, c, i)) (no-cause _ _ i j (omega arith) (omega arith) (omega arith))
+  by (says false w c) (says true v d) i j e = plan-chosen (second e (v, d, j)) (no-cause _ _ i j (omega arith) (omega arith) (omega arith))
+  by (says false w c) (says false v d) i j e = none-chosen (inr (inr ((w, c, i), (v, d, j)))) e
+  by (says true w c) (refuses n) i j e = none-chosen (inr (inl (n, j))) e
+  by (says false w c) (refuses n) i j e = none-chosen (inr (inl (n, j))) e
+  by (refuses n) two i j e = none-chosen (inl (n, i)) e
+
+  pub chooses : Chosen s loads a b r → Chooses s loads a b r
+  chooses = by _ _ refl refl

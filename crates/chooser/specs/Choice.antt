@@ -3,6 +3,7 @@ use Prim.Native.Nat.{ℕ}
 use mathlib.Core.Path.{_≡_}
 use mathlib.Core.Bool.{true, false, cond}
 use mathlib.Core.List.{List, []}
+use mathlib.Core.Logic.{_↔_, _⊎_}
 use lib.Dec.{ltb}
 use lib.IntN.{ℤ}
 use denote.Ref.{RefT, ptr, now}
@@ -37,3 +38,20 @@ HandsBack Neither a b r = EmptyPart a r
 
 abbrev pub Chosen : Settings → List ℤ → (a b r : RefT (List ℕ)) → Type 0
 Chosen s loads a b r = HandsBack (choice (judgment s loads (now a)) (judgment s loads (now b))) a b r
+
+-- what the judge says of a lent plan
+abbrev pub Yes : Settings → List ℤ → RefT (List ℕ) → Type 0
+Yes s loads a = (w : ℕ) × (c : ℕ) × (judgment s loads (now a) ≡ says true w c)
+
+abbrev pub No : Settings → List ℤ → RefT (List ℕ) → Type 0
+No s loads a = (w : ℕ) × (c : ℕ) × (judgment s loads (now a) ≡ says false w c)
+
+abbrev pub Refuses : Settings → List ℤ → RefT (List ℕ) → Type 0
+Refuses s loads a = (n : ℕ) × (judgment s loads (now a) ≡ refuses n)
+
+-- What the chosen one can be (proofs/Choosing.antt).
+pub record Chooses (s : Settings) (loads : List ℤ) (a b r : RefT (List ℕ)) : Type 0 where
+  -- one of the two plans, to which the judge says yes, or the empty part
+  pub handed : (((r ≡ a) ⊎ (r ≡ b)) × Yes s loads r) ⊎ EmptyPart a r
+  -- the empty part exactly where the judge refuses one of the two, or says no to both
+  pub empty : EmptyPart a r ↔ (Refuses s loads a ⊎ (Refuses s loads b ⊎ (No s loads a × No s loads b)))

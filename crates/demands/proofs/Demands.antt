@@ -5,13 +5,13 @@ use mathlib.Core.Bool.{true}
 use mathlib.Core.List.{List, [], _∷_}
 use mathlib.Core.Logic.{_↔_}
 use mathlib.Core.Option.{none}
-use mathlib.Core.Path.{_≡_, refl, _∙_, subst}
+use mathlib.Core.Path.{_≡_, refl, _∙_}
 use lib.IntN.{ℤ}
 use lib.ListN.{length}
 use Rattle.card.proofs.Answering.{reader-refuses, look-up-refuses, refused-unaltered}
 use Rattle.c_api.proofs.Meaning.{means, verdict-means}
 use Rattle.c_api.proofs.WatchMeaning.{start-means, step-means}
-use Rattle.chooser.proofs.Choosing.{plan-or-none, none-where-refused}
+use Rattle.chooser.proofs.Choosing.{chooses}
 use Rattle.judge.proofs.Allowing.{Allowed, allowing, saying, said, refusing}
 use Rattle.rule.proofs.Onward.{as-long}
 use Rattle.settings.proofs.Passing.{passing}
@@ -21,17 +21,16 @@ use Rattle.rule.specs.Rule.{carries, windows, covered}
 use Rattle.settings.specs.declared.Settings.{Settings}
 use Rattle.published.proofs.Corners.{recount}
 use Rattle.published.proofs.Theorems.{theorems}
-use Rattle.published.specs.Published.{Run, size, sum, _⊆_, WeightedSpringyFocus, Obeys, Corners, runs}
+use Rattle.published.specs.Published.{Run, size, sum, _⊆_, Obeys, Corners, runs}
 use Rattle.requests.proofs.Alike.{alike}
 use Rattle.requests.proofs.Demand3.{demand3}
-use Rattle.requests.proofs.Outcomes.{refused-so}
-use Rattle.requests.specs.Promise.{Answers}
+use Rattle.requests.proofs.Outcomes.{unaltered-so, refused-so}
+use Rattle.watch.proofs.RunningOn.{runs-on, run-numbers}
 use Rattle.watch.proofs.Starting
 use Rattle.watch.proofs.Stepping.{two-numbers}
-use Rattle.requests.specs.Request.{Request}
 use Rattle.demands.proofs.Measure.{delivers, delivers-covered}
 use Rattle.demands.proofs.Watching.{counting}
-use Rattle.demands.specs.Demands.{Demand1, Demand2, Contracts, Demands}
+use Rattle.demands.specs.Demands.{Demand1, Judges, Demand2, Contracts, Demands}
 use Rattle.filter.proofs.filter as Filter
 use Rattle.judge.proofs.judge as Judge
 use Rattle.chooser.proofs.choose as Choose
@@ -56,24 +55,22 @@ use Rattle.least.proofs.low as Low
 use Rattle.least.proofs.rows as Rows
 use Rattle.form1.proofs.open as Open
 use Rattle.form1.proofs.range_at as RangeAt
-use Rattle.settings.proofs.Refusal.number as Number
-use Rattle.watch.proofs.step.Refusal.number as StepNumber
-use Rattle.form1.proofs.Refusal.number as CardNumber
+use Rattle.refusals.proofs.FileRefusal.number as FileNumber
+use Rattle.refusals.proofs.SettingsRefusal.number as SettingsNumber
+use Rattle.refusals.proofs.StepRefusal.number as StepNumber
 
 demand1 : Demand1
 demand1 =
     record {
       filter = refused-so;
       decided = alike;
-      unaltered = λ r o k. (
-        (λ e. subst (λ a. Answers r a o) e k .2),
-        (λ f e. subst (λ a. Answers r a o) e k .1),
-      );
+      unaltered = unaltered-so;
       judge = refusing;
-      chooser = plan-or-none;
-      chooser-refused = none-where-refused;
+      chooser = chooses;
       start = Starting.refusing;
       step = λ w load r s n e. (two-numbers (r .answer) n e, s .kept n e);
+      run = λ w v loads taken n r. run-numbers r;
+      run-on = runs-on;
       reader = reader-refuses;
       reader-unaltered = refused-unaltered;
       look-up = look-up-refuses;
@@ -83,15 +80,11 @@ demand1 =
       step-for-c = step-means;
     }
 
-module _ (s : Settings) (X : List ℤ) where
-  abbrev Published : List Run → Type 0
-  Published S = WeightedSpringyFocus X (s .windows .most) (s .len) (s .h) (s .k) (s .covered .most) S
-
-  corner : (S : List Run) → Published S ↔ Obeys (s .k) (s .len) (s .h) (s .windows .most) (s .covered .most) X S
-  corner S = theorems .corners X _ _ _ _ _ S .weightedSpringy
-
+-- the judge by a definition that is a corner of the rule on windows
+module _ (s : Settings) (X : List ℤ) (D : List Run → Type 0)
+    (corner : (S : List Run) → D S ↔ Obeys (s .k) (s .len) (s .h) (s .windows .most) (s .covered .most) X S) where
   sound : (ms : List ℕ) (w c : ℕ) → judgment s X ms ≡ says true w c →
-      Published (runs 0 ms) × (length (runs 0 ms) ≡ w) × (sum size (runs 0 ms) ≡ c)
+      D (runs 0 ms) × (length (runs 0 ms) ≡ w) × (sum size (runs 0 ms) ≡ c)
   sound ms w c j =
       let (e, a, ew, ec) = said s X ms w c j in
       let allow : Allowed s X ms = allowing .0 a in
@@ -102,7 +95,7 @@ module _ (s : Settings) (X : List ℤ) where
         summed ∙ ec,
       )
 
-  complete : refusal (length X) (length X ∷ []) s ≡ none → (S : List Run) → Published S →
+  complete : refusal (length X) (length X ∷ []) s ≡ none → (S : List Run) → D S →
       (ms : List ℕ) × (judgment s X ms ≡ says true (length S) (sum size S)) × (runs 0 ms ⊆ S) × (S ⊆ runs 0 ms)
   complete e S d =
       let o = corner S .0 d in
@@ -116,26 +109,30 @@ module _ (s : Settings) (X : List ℤ) where
       let j : judgment s X ms ≡ says true (windows ms) (covered ms) = saying s X ms (rw same e) (allowing .1 allow) in
       (ms, rw (← number, ← summed) j, into, onto)
 
--- the four definitions at the settings of a request
-corners : (r : Request) (X : List ℤ) (yc zc : ℕ) (S : List Run) →
-    let s = r .settings in Corners X yc (s .len) (s .h) (s .k) zc S
-corners r X yc zc S = theorems .corners X yc _ _ _ zc S
+  judging : Judges s X D
+  judging = record { sound = sound; complete = complete }
+
+-- the four definitions at settings
+corners : (s : Settings) (X : List ℤ) (yc zc : ℕ) (S : List Run) → Corners X yc (s .len) (s .h) (s .k) zc S
+corners s X yc zc S = theorems .corners X yc _ _ _ zc S
 
 demand2 : Demand2
 demand2 =
     record {
       weightedSpringy = λ r o f. (
-        delivers r (f .well) _ (λ X n yc S. corners r X yc (r .settings .covered .most) S .weightedSpringy) o (f .kept),
-        delivers-covered r (f .well) _ (λ X n zc S. corners r X (r .settings .windows .most) zc S .weightedSpringy) o (f .kept),
+        delivers r (f .well) _ (λ X n yc S. corners (r .settings) X yc (r .settings .covered .most) S .weightedSpringy) o (f .kept),
+        delivers-covered r (f .well) _ (λ X n zc S. corners (r .settings) X (r .settings .windows .most) zc S .weightedSpringy) o (f .kept),
       );
       weighted = λ r o f h. (
-        delivers r (f .well) _ (λ X n yc S. rw h (corners r X yc (r .settings .covered .most) S .weighted)) o (f .kept),
-        delivers-covered r (f .well) _ (λ X n zc S. rw h (corners r X (r .settings .windows .most) zc S .weighted)) o (f .kept),
+        delivers r (f .well) _ (λ X n yc S. rw h (corners (r .settings) X yc (r .settings .covered .most) S .weighted)) o (f .kept),
+        delivers-covered r (f .well) _ (λ X n zc S. rw h (corners (r .settings) X (r .settings .windows .most) zc S .weighted)) o (f .kept),
       );
-      springy = λ r o f most. delivers r (f .well) _ (λ X n yc S. rw (most, ← n) (corners r X yc 0 S .springy)) o (f .kept);
-      focus = λ r o f h most. delivers r (f .well) _ (λ X n yc S. rw (h, most, ← n) (corners r X yc 0 S .focus)) o (f .kept);
-      judge-sound = sound;
-      judge-complete = complete;
+      springy = λ r o f most. delivers r (f .well) _ (λ X n yc S. rw (most, ← n) (corners (r .settings) X yc 0 S .springy)) o (f .kept);
+      focus = λ r o f h most. delivers r (f .well) _ (λ X n yc S. rw (h, most, ← n) (corners (r .settings) X yc 0 S .focus)) o (f .kept);
+      judge = λ s X. judging s X _ (λ S. corners s X (s .windows .most) (s .covered .most) S .weightedSpringy);
+      judge-weighted = λ s X h. judging s X _ (λ S. rw h (corners s X (s .windows .most) (s .covered .most) S .weighted));
+      judge-springy = λ s X most. judging s X _ (λ S. rw most (corners s X (s .windows .most) 0 S .springy));
+      judge-focus = λ s X h most. judging s X _ (λ S. rw (h, most) (corners s X (s .windows .most) 0 S .focus));
       watch = counting;
     }
 
@@ -166,9 +163,9 @@ contracts =
       rows = record { meets = Rows.Met.met; total = λ M 𝓤 H A mem run κs a. (tt, λ g. refl) };
       «open» = record { meets = Open.Met.met; total = λ M 𝓤 H A mem run κs a. (tt, λ g. refl) };
       range-at = record { meets = RangeAt.Met.met; total = λ M 𝓤 H A mem run κs a. (tt, λ g. refl) };
-      number = record { meets = Number.Met.met; total = λ M 𝓤 H A mem run κs a. (tt, λ g. refl) };
+      number-of-a-file = record { meets = FileNumber.Met.met; total = λ M 𝓤 H A mem run κs a. (tt, λ g. refl) };
+      number-of-settings = record { meets = SettingsNumber.Met.met; total = λ M 𝓤 H A mem run κs a. (tt, λ g. refl) };
       number-of-a-step = record { meets = StepNumber.Met.met; total = λ M 𝓤 H A mem run κs a. (tt, λ g. refl) };
-      number-of-a-card = record { meets = CardNumber.Met.met; total = λ M 𝓤 H A mem run κs a. (tt, λ g. refl) };
     }
 
 pub demands : Demands

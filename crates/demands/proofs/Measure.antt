@@ -10,6 +10,7 @@ use mathlib.Core.Path.{_≡_, sym, _∙_, subst}
 use lib.IntN.{ℤ}
 use lib.ListN.{length}
 use Rattle.judge.proofs.Allowing.{Allowed, allowing, said}
+use Rattle.rule.proofs.Ranges.{chosen-length}
 use Rattle.rule.specs.Ranges.{ChosenIn}
 use Rattle.rule.specs.Rule.{legal, windows, covered}
 use Rattle.settings.specs.declared.CountRange.{CountRange}
@@ -17,7 +18,7 @@ use Rattle.settings.specs.declared.Settings.{Settings}
 use Rattle.published.proofs.Corners.{recount}
 use Rattle.published.proofs.Theorems.{theorems}
 use Rattle.published.specs.Published.{Run, Obeys, runs}
-use Rattle.requests.proofs.Choices.{chosen-length, paired-length}
+use Rattle.requests.proofs.Choices.{paired-length}
 use Rattle.requests.proofs.Outcomes.{planned-so, none-so, says-none}
 use Rattle.requests.proofs.Requests.{formed, chosen-slots}
 use Rattle.requests.specs.Promise.{Outcome, Raised, Drawn, Keeps}

@@ -10,7 +10,7 @@ use Rattle.rule.specs.Rule.{carries, covered}
 use Rattle.published.proofs.Theorems.{theorems}
 use Rattle.published.specs.Published.{Run, SpringyFocus, runs}
 use Rattle.watch.proofs.Counting.{least}
-use Rattle.watch.proofs.Reaching.{settled}
+use Rattle.watch.proofs.Reaching.{accepted-numbers}
 use Rattle.watch.specs.States.{Leads}
 use Rattle.watch.specs.declared.Watch.{Watch}
 use Rattle.demands.proofs.Measure.{drawn-by}
@@ -19,7 +19,7 @@ use Rattle.demands.specs.Demands.{Least}
 pub counting : (k : ℤ) (len h : ℕ) (X : List ℤ) (w : Watch) → Leads k len h X w →
     Least (λ yc. (S : List Run) × SpringyFocus X yc len h k S) (w .windows)
 counting k len h X w l =
-    let one = settled len h (l .accepted) .0 in
+    let one = accepted-numbers len h (l .accepted) .0 in
     let over-marks = least k len h X (l .accepted) in
     let (ms, e, same) = over-marks .met in
     let short : covered ms ≤ length X = omega (arith, covered-le ms, as-long (carries k) len h X ms e) in

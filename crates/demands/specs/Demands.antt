@@ -1,36 +1,37 @@
 -- The three demands on one page, over every operation that a caller can reach. Each line is a theorem, or says that an operation
--- meets its contract, which asks nothing of the caller (`Contracts`, at the end); proofs/Demands.antt cites each from where it is
--- proved.
+-- meets its contract, which asks nothing of the caller (`Contracts`, at the end). What relates two crates is proved in proofs/, all
+-- else where its subject is.
 --
 -- What an operation hands back is known by its contract, and by nothing else. What the filter hands back for a request r is an
 -- outcome o with `Keeps r o`: each line below that has `Keeps` speaks of it. What the judge tells is `judgment`, what the chooser hands
--- back is `Chosen`, what a watch gives is `starting` and `Steps`, what the reader leaves is `reading`, and what a look-up gives, also
--- through a view, is `looking`.
+-- back is `Chosen`, what a watch gives is `starting`, `Steps` and `Runs`, what the reader leaves is `reading`, and what a look-up gives,
+-- also through a view, is `looking`.
 use Prim.Native.Nat.{ℕ, _≤_, _<_, max}
 use mathlib.Core.Bool.{true}
 use mathlib.Core.List.{List, [], _∷_}
 use mathlib.Core.Logic.{_↔_, _⊎_}
 use mathlib.Core.Option.{none, some}
 use mathlib.Core.Path.{_≡_}
-use denote.Ref.{RefT, now}
+use denote.Ref.{RefT}
 use lib.IntN.{ℤ}
 use lib.ListN.{length}
 use Rattle.rule.specs.Ranges.{ChosenIn}
-use Rattle.settings.specs.Refusals.{row, refusal}
+use Rattle.refusals.specs.Answer.{refuses}
+use Rattle.refusals.specs.Table.{row}
+use Rattle.settings.specs.Refusals.{refusal}
 use Rattle.settings.specs.declared.CountRange.{CountRange}
 use Rattle.settings.specs.declared.Settings.{Settings}
-use Rattle.judge.specs.Judgment.{says, refuses, judgment}
-use Rattle.chooser.specs.Choice.{EmptyPart, Chosen}
+use Rattle.judge.specs.Judgment.{says, refuses as Judgment·refuses, judgment}
+use Rattle.chooser.specs.Choice.{Chosen, Chooses}
 use Rattle.published.specs.Published.{Run, size, sum, _⊆_, Focus, SpringyFocus, WeightedFocus, WeightedSpringyFocus, runs}
 use Rattle.requests.specs.Demand3.{Demand3}
-use Rattle.requests.specs.Promise.{refuses as Answer·refuses, no-plan, planned, Outcome, Held, Unaltered, Keeps, Alike}
+use Rattle.requests.specs.Promise.{refuses as Promise·refuses, no-plan, planned, Outcome, Held, Unaltered, Keeps, Alike}
 use Rattle.requests.specs.Request.{Request, slots, paired, ranges, at, Refused, refused, WellFormed}
-use Rattle.watch.specs.Promise.{refuses as Start·refuses, starting, refuses-with, told, Steps}
+use Rattle.watch.specs.Promise.{starting, refuses-with, told, Steps, Runs, RunsFrom}
 use Rattle.watch.specs.States.{startRefusal, Leads}
 use Rattle.watch.specs.declared.Watch.{Watch}
 use Rattle.watch.specs.declared.step.Stepped.{Stepped}
 use Rattle.form1.specs.Form1.{refusal as File·refusal}
-use Rattle.form1.specs.Opening.{refuses as Card·refuses}
 use Rattle.card.specs.Reading.{lentTooShort, reading, noSlot, looking}
 use Rattle.c_api.specs.Numbers.{Answered, Means, VerdictMeans}
 use Rattle.c_api.specs.WatchNumbers.{StartMeans, StepMeans}
@@ -60,42 +61,43 @@ use Rattle.least.proofs.low as Low
 use Rattle.least.proofs.rows as Rows
 use Rattle.form1.proofs.open as Open
 use Rattle.form1.proofs.range_at as RangeAt
-use Rattle.settings.proofs.Refusal.number as Number
-use Rattle.watch.proofs.step.Refusal.number as StepNumber
-use Rattle.form1.proofs.Refusal.number as CardNumber
+use Rattle.refusals.proofs.FileRefusal.number as FileNumber
+use Rattle.refusals.proofs.SettingsRefusal.number as SettingsNumber
+use Rattle.refusals.proofs.StepRefusal.number as StepNumber
 
 -- Demand 1: every input gets a result or one numbered refusal (from the chooser, an empty part), and what is lent is unaltered after
 -- a refusal or a "no plan". That every input may be given is said by `Contracts`. The judge, the chooser, the watch, the look-up and
 -- the view take values and shared slices, and write nothing; the listing refuses nothing.
 pub record Demand1 : Type 0 where
   -- the filter refuses with the first number that applies, and in no other situation
-  pub filter : (r : Request) (o : Outcome) → Keeps r o → (f : Refused) → (o .answer ≡ Answer·refuses f) ↔ (refused r ≡ some f)
+  pub filter : (r : Request) (o : Outcome) → Keeps r o → (f : Refused) → (o .answer ≡ Promise·refuses f) ↔ (refused r ≡ some f)
   -- its promise decides the answer and both load slices: nothing is left open but which plan is handed back
   pub decided : (r : Request) (o p : Outcome) → Keeps r o → Keeps r p → Alike o p
   pub unaltered : (r : Request) (o : Outcome) → Keeps r o →
-      (o .answer ≡ no-plan → Unaltered r o) × ((f : Refused) → o .answer ≡ Answer·refuses f → Unaltered r o)
+      (o .answer ≡ no-plan → Unaltered r o) × ((f : Refused) → o .answer ≡ Promise·refuses f → Unaltered r o)
   -- so does the judge
   pub judge : (s : Settings) (loads : List ℤ) (marks : List ℕ) (n : ℕ) →
-      (judgment s loads marks ≡ refuses n) ↔ (refusal (length loads) (length marks ∷ []) s ≡ some n)
-  -- the chooser hands back one of the two plans, to which the judge says yes, or the empty part; and that after any refusal
-  pub chooser : (s : Settings) (loads : List ℤ) (a b r : RefT (List ℕ)) → Chosen s loads a b r →
-      (((r ≡ a) ⊎ (r ≡ b)) × ((w : ℕ) × (c : ℕ) × (judgment s loads (now r) ≡ says true w c))) ⊎ EmptyPart a r
-  pub chooser-refused : (s : Settings) (loads : List ℤ) (a b r : RefT (List ℕ)) (n : ℕ) →
-      (judgment s loads (now a) ≡ refuses n) ⊎ (judgment s loads (now b) ≡ refuses n) → Chosen s loads a b r → EmptyPart a r
+      (judgment s loads marks ≡ Judgment·refuses n) ↔ (refusal (length loads) (length marks ∷ []) s ≡ some n)
+  -- the chooser hands back one of the two plans, to which the judge says yes; or the empty part, exactly where the judge refuses one
+  -- of the two or says no to both
+  pub chooser : (s : Settings) (loads : List ℤ) (a b r : RefT (List ℕ)) → Chosen s loads a b r → Chooses s loads a b r
   -- a watch's start refuses so; a refusal of a step is 32 or 33, each exactly when `Steps` says, and keeps the state
-  pub start : (k : ℤ) (len h n : ℕ) → (starting k len h ≡ Start·refuses n) ↔ (startRefusal len h ≡ some n)
+  pub start : (k : ℤ) (len h n : ℕ) → (starting k len h ≡ refuses n) ↔ (startRefusal len h ≡ some n)
   pub step : (w : Watch) (load : ℤ) (r : Stepped) → Steps w load r → (n : ℕ) → told (r .answer) ≡ refuses-with n →
       ((n ≡ 32) ⊎ (n ≡ 33)) × (r .watch ≡ w)
+  -- a run is refused by one of its steps; from a state that loads lead to, with 33, exactly when the limit leaves loads over
+  pub run : (w v : Watch) (loads : List ℤ) (taken n : ℕ) → Runs w loads v taken (some n) → (n ≡ 32) ⊎ (n ≡ 33)
+  pub run-on : RunsFrom
   -- the reader and the look-up refuse so, the reader leaving both slices as they were
   pub reader : (file : List ℕ) (los his : List ℤ) (n : ℕ) →
-      (reading file los his .answer ≡ Card·refuses n) ↔ (File·refusal (row 17 (lentTooShort los his file)) file ≡ some n)
-  pub reader-unaltered : (file : List ℕ) (los his : List ℤ) (n : ℕ) → reading file los his .answer ≡ Card·refuses n →
+      (reading file los his .answer ≡ refuses n) ↔ (File·refusal (row 17 (lentTooShort los his file)) file ≡ some n)
+  pub reader-unaltered : (file : List ℕ) (los his : List ℤ) (n : ℕ) → reading file los his .answer ≡ refuses n →
       (reading file los his .lowest ≡ los) × (reading file los his .highest ≡ his)
   pub look-up : (slot : ℕ) (file : List ℕ) (n : ℕ) →
-      (looking slot file ≡ Card·refuses n) ↔ (File·refusal (row 19 (noSlot slot file)) file ≡ some n)
-  -- for C, the numbers tell which of these it was
+      (looking slot file ≡ refuses n) ↔ (File·refusal (row 19 (noSlot slot file)) file ≡ some n)
+  -- for C, the numbers tell which of these it was, and the filter's lent slices are as it leaves them
   pub filter-for-c : (r : Request) (numbers : AnswerNumbers) (los his : List ℤ) (ms : List ℕ) → Answered r numbers los his ms →
-      Means r numbers
+      Means r numbers los his ms
   pub judge-for-c : (s : Settings) (loads : List ℤ) (marks : List ℕ) → VerdictMeans s loads marks
   pub start-for-c : StartMeans
   pub step-for-c : StepMeans
@@ -147,6 +149,15 @@ pub record Filtered (r : Request) (o : Outcome) : Type 0 where
   pub well : WellFormed r
   pub kept : Keeps r o
 
+-- The judge, by a definition D of the windows drawn
+pub record Judges (s : Settings) (X : List ℤ) (D : List Run → Type 0) : Type 0 where
+  -- says yes to nothing but what it allows, with the counts of these windows,
+  pub sound : (ms : List ℕ) (w c : ℕ) → judgment s X ms ≡ says true w c →
+      D (runs 0 ms) × (length (runs 0 ms) ≡ w) × (sum size (runs 0 ms) ≡ c)
+  -- and to all that it allows
+  pub complete : refusal (length X) (length X ∷ []) s ≡ none → (S : List Run) → D S →
+      (ms : List ℕ) × (judgment s X ms ≡ says true (length S) (sum size S)) × (runs 0 ms ⊆ S) × (S ⊆ runs 0 ms)
+
 pub record Demand2 : Type 0 where
   pub weightedSpringy : (r : Request) (o : Outcome) → Filtered r o → let s = r .settings in
       Delivers r (λ X yc S. WeightedSpringyFocus X yc (s .len) (s .h) (s .k) (s .covered .most) S) o
@@ -161,14 +172,15 @@ pub record Demand2 : Type 0 where
   -- with both
   pub focus : (r : Request) (o : Outcome) → Filtered r o → r .settings .h ≡ 0 → r .settings .covered .most ≡ slots r →
       let s = r .settings in Delivers r (λ X yc S. Focus X yc (s .len) (s .k) S) o
-  -- the judge says yes to nothing but what the definition allows, with the counts of the windows drawn,
-  pub judge-sound : (s : Settings) (X : List ℤ) (ms : List ℕ) (w c : ℕ) → judgment s X ms ≡ says true w c →
-      WeightedSpringyFocus X (s .windows .most) (s .len) (s .h) (s .k) (s .covered .most) (runs 0 ms)
-      × (length (runs 0 ms) ≡ w) × (sum size (runs 0 ms) ≡ c)
-  -- and to all that it allows
-  pub judge-complete : (s : Settings) (X : List ℤ) → refusal (length X) (length X ∷ []) s ≡ none → (S : List Run) →
-      WeightedSpringyFocus X (s .windows .most) (s .len) (s .h) (s .k) (s .covered .most) S →
-      (ms : List ℕ) × (judgment s X ms ≡ says true (length S) (sum size S)) × (runs 0 ms ⊆ S) × (S ⊆ runs 0 ms)
+  -- the judge of finished plans, in the same order
+  pub judge : (s : Settings) (X : List ℤ) →
+      Judges s X (WeightedSpringyFocus X (s .windows .most) (s .len) (s .h) (s .k) (s .covered .most))
+  pub judge-weighted : (s : Settings) (X : List ℤ) → s .h ≡ 0 →
+      Judges s X (WeightedFocus X (s .windows .most) (s .len) (s .k) (s .covered .most))
+  pub judge-springy : (s : Settings) (X : List ℤ) → s .covered .most ≡ length X →
+      Judges s X (SpringyFocus X (s .windows .most) (s .len) (s .h) (s .k))
+  pub judge-focus : (s : Settings) (X : List ℤ) → s .h ≡ 0 → s .covered .most ≡ length X →
+      Judges s X (Focus X (s .windows .most) (s .len) (s .k))
   -- the watch counts the least number of windows, without a maximum, for the loads that led to its state
   pub watch : (k : ℤ) (len h : ℕ) (X : List ℤ) (w : Watch) → Leads k len h X w →
       Least (λ yc. (S : List Run) × SpringyFocus X yc len h k S) (w .windows)
@@ -206,9 +218,9 @@ pub record Contracts : Type 2 where
   pub rows : Operation Rows.Statement.statement Rows.signature (λ M 𝓤. Rows.spec 𝓤)
   pub «open» : Operation Open.Statement.statement Open.signature (λ M 𝓤. Open.spec 𝓤)
   pub range-at : Operation RangeAt.Statement.statement RangeAt.signature (λ M 𝓤. RangeAt.spec 𝓤)
-  pub number : Operation Number.Statement.statement Number.signature (λ M 𝓤. Number.spec 𝓤)
+  pub number-of-a-file : Operation FileNumber.Statement.statement FileNumber.signature (λ M 𝓤. FileNumber.spec 𝓤)
+  pub number-of-settings : Operation SettingsNumber.Statement.statement SettingsNumber.signature (λ M 𝓤. SettingsNumber.spec 𝓤)
   pub number-of-a-step : Operation StepNumber.Statement.statement StepNumber.signature (λ M 𝓤. StepNumber.spec 𝓤)
-  pub number-of-a-card : Operation CardNumber.Statement.statement CardNumber.signature (λ M 𝓤. CardNumber.spec 𝓤)
 
 -- Demand 3 stands in crates/requests/specs/Demand3.antt, of the definitions and of what the filter hands back.
 pub record Demands : Type 2 where

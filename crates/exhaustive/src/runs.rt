@@ -1,5 +1,5 @@
 // Goes through comparisons by their numbers, and prints what came of them.
-ghost use Prim.Native.Nat.{_<_, _≤_};
+ghost use Prim.Native.Nat.{_<_};
 use crate::filtered;
 use crate::judged;
 use crate::loosened;

@@ -1,2 +1,3 @@
+pub mod Integers
 pub mod Rules
 pub mod Signs

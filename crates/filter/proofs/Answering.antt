@@ -3,8 +3,7 @@ use Prim.Native.Nat.{ℕ, suc, _-_, _≤_, _<_}
 use native.Mathlib.Omega.{arith}
 use mathlib.Core.Bool.{true, false, true≢false}
 use mathlib.Core.List.{List, []}
-use mathlib.Core.Option.{some}
-use mathlib.Core.Path.{_≡_, refl, sym, _∙_}
+use mathlib.Core.Path.{_≡_, sym, _∙_}
 use borrow.Author.Tests.{le-leb, lt-leb}
 use lib.IntN.{ℤ}
 use lib.ListN.{length, take}
@@ -16,13 +15,10 @@ use Rattle.settings.specs.declared.CountRange.{CountRange}
 use Rattle.settings.specs.declared.Settings.{Settings}
 use Rattle.requests.proofs.Keeping.{keeps}
 use Rattle.requests.proofs.Requests.{formed, fits→plan}
-use Rattle.requests.specs.Promise.{refuses, no-plan, planned, Keeps}
-use Rattle.requests.specs.Request.{Request, slots, Refused, refused, WellFormed}
+use Rattle.requests.specs.Promise.{no-plan, planned, Keeps}
+use Rattle.requests.specs.Request.{Request, slots, WellFormed}
 use Rattle.requests.specs.Solution.{classes, cheapest, sparsest, possible, lowestLeft, highestLeft, raised, found, unaltered, outcome}
 use Rattle.least.specs.declared.Least.{Least}
-
-pub refusal-kept : (r : Request) {f : Refused} → refused r ≡ some f → Keeps r (unaltered r (refuses f))
-refusal-kept r e = (e, record { lowest = refl; highest = refl; marks = refl })
 
 module _ (r : Request) (well : WellFormed r) where
   abbrev s : Settings

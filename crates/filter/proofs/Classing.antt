@@ -1,24 +1,20 @@
 -- What each slot can be, from the first on (the loop of `filter::classes::classify`).
-use Prim.Native.Nat.{ℕ, suc, _+_, _≤_, _<_}
+use Prim.Native.Nat.{ℕ, _+_, _≤_, _<_}
 use native.Mathlib.Nat.{eq-or-lt-of-le}
-use native.Mathlib.Numerals.{add-one}
 use native.Mathlib.Omega.{arith}
-use mathlib.Core.Bool.{true, false, cond}
 use mathlib.Core.List.{List, map}
 use mathlib.Core.Logic.{⊎-elim}
-use mathlib.Core.Option.{none, some}
-use mathlib.Core.Path.{_≡_, refl, sym, _∙_, subst}
-use lib.IntN.{ℤ, pos}
-use lib.ListN.{length, drop, take, getD, set, replicate, drop-of-length-le, length-map, length-set, length-replicate}
-use lib.Seq.{drop-cons, ext-getD, getD-set-same, getD-set-other, length-take-le}
-use lib.Signed.{ltZ}
+use mathlib.Core.Path.{_≡_, sym, _∙_, subst}
+use lib.IntN.{ℤ}
+use lib.ListN.{length, take, getD, set, replicate, length-map, length-set, length-replicate}
+use lib.Seq.{ext-getD, getD-set-same, getD-set-other, length-take-le}
 use Rattle.rule.specs.Ranges.{under-only, classOf}
 use Rattle.settings.specs.Refusals.{limit}
 use Rattle.requests.proofs.Choices.{paired-length}
 use Rattle.least.proofs.Coding.{code-at}
 use Rattle.requests.proofs.Narrowing.{class-at}
 use Rattle.least.specs.Codes.{coded, decoded}
-use Rattle.requests.specs.Request.{range, at, paired, crossed}
+use Rattle.requests.specs.Request.{range, at, paired}
 
 -- what holds of the places before i, and of the value written to place i, holds of the places before i + 1
 pub written : {A : Type 0} (P : ℕ → A → Type 0) (l : List A) (i : ℕ) (v d : A) → i < length l →

@@ -13,13 +13,12 @@ use lib.Seq.{take-set-lt, length-take-le, ext-getD, getD-set-other}
 use lib.Signed.{ltZ, mag, _≤ℤ_, _<ℤ_}
 use mir.Syntax.{w32}
 use mir.Val.{SFits}
-use Rattle.facts.proofs.Rules.{holds}
+use Rattle.facts.proofs.Integers.{le→lt-suc}
+use Rattle.facts.proofs.Rules.{holds, map-set}
 use Rattle.rule.specs.Ranges.{Range, Class, under-only, over-only, either, classOf}
 use Rattle.settings.specs.declared.Settings.{Settings}
-use Rattle.requests.proofs.Choices.{map-set}
 use Rattle.filter.proofs.Classing.{written}
 use Rattle.least.proofs.Coding.{codes-under, codes-over, codes-either, code-at}
-use Rattle.requests.proofs.Integers.{le→lt-suc}
 use Rattle.requests.proofs.Narrowing.{along-length, along-at, class-at, Ends, ends}
 use Rattle.least.specs.Codes.{coded, decoded}
 use Rattle.filter.specs.Parts.{losing, Loses}

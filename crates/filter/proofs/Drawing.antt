@@ -10,14 +10,15 @@ use borrow.Author.Tests.{ne-eqb, leb-true, eqb-true, eqb-false, ltb-true, ltb-fa
 use lib.Dec.{eqb, ltb}
 use lib.ListN.{length, drop, take, getD, set, length-set, length-map, drop-of-length-le}
 use lib.Seq.{take-all, take-suc-set, append-snoc}
-use Rattle.rule.proofs.Plan.{State, out, on, done, skip, opens, close, more, bridges, plan→legal}
+use Rattle.rule.proofs.Classes.{must-be-over, must-be-under}
+use Rattle.rule.proofs.Plan.{State, out, on, PlanBy, done, skip, opens, close, more, bridges, plan→legal}
 use Rattle.facts.proofs.Rules.{at-most}
-use Rattle.rule.specs.Ranges.{Class, under-only, over-only, either, allows}
+use Rattle.rule.specs.Ranges.{Class, allows}
 use Rattle.settings.specs.Refusals.{limit}
-use Rattle.rule.specs.Rule.{goesWith, count, legalBy, windows, covered}
+use Rattle.rule.specs.Rule.{count, legalBy, windows, covered}
 use Rattle.settings.specs.declared.Settings.{Settings}
 use Rattle.least.proofs.Coding.{cannot-be-uncovered}
-use Rattle.requests.proofs.Exact.{Marks, Fits, least}
+use Rattle.requests.proofs.Exact.{Fits, least}
 use Rattle.least.proofs.Filling.{at-slot}
 use Rattle.least.proofs.Scanning.{from-slot}
 use Rattle.requests.specs.Best.{spend, dearer, best, onward, after}
@@ -58,18 +59,6 @@ used f (suc n) c e l = (omega arith, subst (λ n. f n ≤ c) (omega arith) e)
 covers-one : (x c : ℕ) → dearer sentinel x ≤ c → c < sentinel → (1 ≤ c) × (x ≤ c - 1)
 covers-one x c e l = omega arith
 
-must-be-over : (c : Class) → allows c 0 ≡ false → allows c 1 ≡ true
-unfolding allows goesWith
-must-be-over under-only e = absurd (true≢false e)
-must-be-over over-only e = refl
-must-be-over either e = refl
-
-must-be-under : (c : Class) → allows c 2 ≡ false → allows c 3 ≡ true
-unfolding allows goesWith
-must-be-under under-only e = refl
-must-be-under over-only e = absurd (true≢false e)
-must-be-under either e = refl
-
 module _ (room h : ℕ) where
   -- the least that a plan covers which does not close a window before the next slot
   abbrev reach : State → List Class → (w : ℕ) → ℕ
@@ -77,7 +66,7 @@ module _ (room h : ℕ) where
   reach (on closes r b) cs w = onward sentinel room h cs r b w
 
   -- at the end a window may close, unless it is behind a bridge
-  ended : (st : State) (w c : ℕ) → least sentinel room h st [] w ≤ c → c < sentinel → Marks room h st [] []
+  ended : (st : State) (w c : ℕ) → least sentinel room h st [] w ≤ c → c < sentinel → PlanBy allows room h st [] []
   unfolding onward
   ended (out q) w c e l = done
   ended (on true r b) w c e l = close done
@@ -88,7 +77,7 @@ module _ (room h : ℕ) where
     pub windows-same : q .windows ≡ p .windows
     pub covered-same : q .covered ≡ p .covered
     pub enough : reach (state q r b) cs (p .windows) ≤ p .covered
-    pub carry : (rest : List ℕ) → Marks room h (state q r b) cs rest → Marks room h (state p r b) cs rest
+    pub carry : (rest : List ℕ) → PlanBy allows room h (state q r b) cs rest → PlanBy allows room h (state p r b) cs rest
     pub inside : (q .mark ≡ 0 → ⊥) → q .mark ≡ p .mark
 
   module _ (cs : List Class) (r b : ℕ) (p : Pen) where
@@ -99,7 +88,7 @@ module _ (room h : ℕ) where
     stays e = record { windows-same = refl; covered-same = refl; enough = e; carry = λ rest m. m; inside = λ _. refl }
 
     shuts : best sentinel room h cs (p .windows) ≤ p .covered →
-        ((rest : List ℕ) → Marks room h (out 0) cs rest → Marks room h (state p r b) cs rest) → Closed cs r b p shut
+        ((rest : List ℕ) → PlanBy allows room h (out 0) cs rest → PlanBy allows room h (state p r b) cs rest) → Closed cs r b p shut
     shuts e f = record { windows-same = refl; covered-same = refl; enough = e; carry = f; inside = λ n. absurd (n refl) }
 
     pub closing : (rest : ℕ) → ((p .mark ≡ 0 → ⊥) → rest ≡ best sentinel room h cs (p .windows)) →
@@ -128,9 +117,9 @@ module _ (room h : ℕ) where
     pub enough : least sentinel room h (state n slots bridges) cs (n .windows) ≤ n .covered
     pub windows-left : n .windows ≤ q .windows
     pub covered-left : n .covered ≤ q .covered
-    pub carry : (rest : List ℕ) → Marks room h (state n slots bridges) cs rest → windows rest ≤ n .windows →
+    pub carry : (rest : List ℕ) → PlanBy allows room h (state n slots bridges) cs rest → windows rest ≤ n .windows →
         covered rest ≤ n .covered →
-        Marks room h (state q r b) (c ∷ cs) (n .mark ∷ rest)
+        PlanBy allows room h (state q r b) (c ∷ cs) (n .mark ∷ rest)
         × (windows (n .mark ∷ rest) ≤ q .windows)
         × (covered (n .mark ∷ rest) ≤ q .covered)
     -- the window goes on, where none is opened
@@ -176,8 +165,8 @@ module _ (room h : ℕ) where
 
     goes : (r b m r′ b′ : ℕ) → (q .mark ≡ 0 → ⊥) → eqb m 1 ≡ false → 1 ≤ q .covered →
         least sentinel room h (state (drawn m) r′ b′) cs (q .windows) ≤ q .covered - 1 →
-        ((rest : List ℕ) → Marks room h (state (drawn m) r′ b′) cs rest →
-        Marks room h (on (not (eqb (q .mark) 3)) r b) (c ∷ cs) (m ∷ rest)) →
+        ((rest : List ℕ) → PlanBy allows room h (state (drawn m) r′ b′) cs rest →
+        PlanBy allows room h (on (not (eqb (q .mark) 3)) r b) (c ∷ cs) (m ∷ rest)) →
         Stepped c cs r b q (drawn m)
     unfolding windows covered count
     goes r b m r′ b′ o later some e f =
@@ -236,8 +225,9 @@ module _ (s : Settings) (classes : List ℕ) where
     pub slots : ℕ
     pub bridges : ℕ
     pub enough : least sentinel len-room (s .h) (state p slots bridges) (drop i cs) (p .windows) ≤ p .covered
-    pub ahead : (rest : List ℕ) → Marks len-room (s .h) (state p slots bridges) (drop i cs) rest → windows rest ≤ p .windows →
-        covered rest ≤ p .covered → Fits len-room (s .h) cs (s .windows .most) (s .covered .most) (take i marks ++ rest)
+    pub ahead : (rest : List ℕ) → PlanBy allows len-room (s .h) (state p slots bridges) (drop i cs) rest →
+        windows rest ≤ p .windows → covered rest ≤ p .covered →
+        Fits len-room (s .h) cs (s .windows .most) (s .covered .most) (take i marks ++ rest)
 
   pub begins : (marks row : List ℕ) → length marks ≡ length classes → length row ≡ 65 → s .windows .most ≤ limit →
       s .covered .most ≤ limit → possible s cs ≡ true →

@@ -2,15 +2,15 @@
 use Prim.Native.Nat.{ℕ}
 use mathlib.Core.List.{List}
 use lib.IntN.{ℤ}
-use Rattle.settings.specs.Refusals.{number}
+use Rattle.refusals.specs.Numbers.{settingsNumber}
 use Rattle.requests.specs.Promise.{Answer as Promised, refuses, no-plan, planned, Outcome}
 use Rattle.requests.specs.Request.{numbered, at-slot}
 use Rattle.filter.specs.declared.Answer.{Answer}
 use Rattle.filter.specs.declared.Answer.the-variants.{Refused, Crossed, NoPlan, Planned}
 
--- 31 is the refusal that only the filter gives
+-- 31 has its slot
 abbrev pub told : Answer → Promised
-told (Refused r) = refuses (numbered (number r))
+told (Refused r) = refuses (numbered (settingsNumber r))
 told (Crossed slot) = refuses (at-slot 31 slot)
 told NoPlan = no-plan
 told (Planned w c) = planned w c

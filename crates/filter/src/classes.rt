@@ -10,15 +10,16 @@ ghost use Rattle.least.specs.Codes.{coded, decoded};
 use least::EITHER;
 use least::OVER;
 use least::UNDER;
+use rule::over;
 
 // The class of one slot's range.
 fn class_of(k: i32, lowest: i32, highest: i32) -> u8
     ensures { λ r. ⌜ coded r ≡ classOf k (range lowest highest) ⌝ }
 {
-    if lowest > k {
+    if over(k, lowest) {
         return OVER;
     }
-    if highest > k {
+    if over(k, highest) {
         return EITHER;
     }
     UNDER

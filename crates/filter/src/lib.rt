@@ -11,8 +11,8 @@ use crate::narrow::narrow;
 use checks::Formed;
 use checks::check_request;
 use least::low;
+use refusals::SettingsRefusal;
 use settings::CountRange;
-use settings::Refusal;
 use settings::Settings;
 
 mod classes;
@@ -21,7 +21,7 @@ mod narrow;
 
 // What the filter answers. Crossed is refusal 31, with the first slot whose lowest load is above its highest.
 pub enum Answer {
-    Refused(Refusal),
+    Refused(SettingsRefusal),
     Crossed(usize),
     NoPlan,
     Planned {

@@ -11,13 +11,13 @@ use lib.Seq.{drop-append-add, drop-drop}
 use mir.Syntax.{w32}
 use mir.Val.{SFits}
 use Rattle.rule.specs.Ranges.{Range}
-use Rattle.settings.specs.Refusals.{first}
+use Rattle.refusals.specs.Table.{first}
 use Rattle.settings.specs.declared.Settings.{Settings}
 use Rattle.form1.specs.Form1.{little, signed, numberAt, signedAt, trailer, distance, slots, settings, form, rangeOf, wrongSize, wrongEnd, wrongForm, wrongSlots, wrongDistance, recordsMissing, fileRows}
 use Rattle.form1.specs.Layout.{bytes, bits, records, trailing, drawn, Loads, ReadBack}
 
 -- numbers there and back
-pub little-bytes : (size n : ℕ) → n < 256 ^ size → little (bytes size n) ≡ n
+little-bytes : (size n : ℕ) → n < 256 ^ size → little (bytes size n) ≡ n
 unfolding little bytes
 little-bytes zero n h = omega (arith, h)
 little-bytes (suc size) n h = rw (little-bytes size (n / 256) (omega (arith, h))) (omega arith)
@@ -27,7 +27,7 @@ unfolding bits
 fits-bits (pos n) f = let small : n < 2147483648 = f .sfits in omega arith
 fits-bits (negsuc n) f = omega arith
 
-pub signed-bits : (z : ℤ) → SFits w32 z → signed (bits z) ≡ z
+signed-bits : (z : ℤ) → SFits w32 z → signed (bits z) ≡ z
 unfolding signed bits
 signed-bits (pos n) f = rw (lt-ltb n 2147483648 (f .sfits)) refl
 signed-bits (negsuc n) f =

@@ -4,4 +4,4 @@ mod Numbers
 pub mod Opening
 pub mod Passing
 pub mod Redrawing
-pub mod Told
+pub mod Rows

@@ -6,9 +6,9 @@ use mathlib.Core.Option.{none}
 use mathlib.Core.Path.{_≡_, refl, sym, _∙_}
 use borrow.Author.Tests.{ltb-false, eqb-true, not-false}
 use lib.ListN.{length}
-use Rattle.settings.proofs.Passing.{clear, sized}
-use Rattle.facts.proofs.Rules.{neither}
-use Rattle.settings.specs.Refusals.{first}
+use Rattle.facts.proofs.Rules.{neither, sized}
+use Rattle.refusals.proofs.Table.{clear}
+use Rattle.refusals.specs.Table.{first}
 use Rattle.form1.specs.Form1.{wrongSize, wrongEnd, wrongForm, wrongSlots, wrongDistance, recordsMissing, numberAt, trailer, form, slots, distance, fileRows}
 
 pub record Whole (file : List ℕ) : Type 0 where

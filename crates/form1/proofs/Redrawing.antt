@@ -11,7 +11,7 @@ use lib.ListN.{length, take, drop, length-drop, take-append-drop, drop-of-length
 use lib.Seq.{drop-drop, take-add}
 use Rattle.facts.proofs.Rules.{uncons}
 use Rattle.rule.specs.Ranges.{Range}
-use Rattle.settings.specs.Refusals.{first}
+use Rattle.refusals.specs.Table.{first}
 use Rattle.form1.proofs.Each.{length-each}
 use Rattle.form1.proofs.Numbers.{one}
 use Rattle.form1.proofs.Passing.{Whole, whole}

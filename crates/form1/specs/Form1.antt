@@ -7,7 +7,7 @@ use lib.Dec.{eqb, ltb}
 use lib.IntN.{ℤ, pos, _-ℤ_}
 use lib.ListN.{length, take, drop}
 use Rattle.rule.specs.Ranges.{Range}
-use Rattle.settings.specs.Refusals.{Row, row, first}
+use Rattle.refusals.specs.Table.{Row, row, first}
 use Rattle.settings.specs.declared.Settings.{Settings}
 
 -- numbers are little-endian ..

@@ -9,7 +9,7 @@ use lib.ListN.{length, take, getD}
 use mir.Syntax.{w32}
 use mir.Val.{SFits}
 use Rattle.rule.specs.Ranges.{Range}
-use Rattle.settings.specs.Refusals.{first}
+use Rattle.refusals.specs.Table.{first}
 use Rattle.settings.specs.declared.Settings.{Settings}
 use Rattle.form1.specs.Form1.{trailer, distance, settings, slots, rangeOf, each, fileRows}
 

@@ -7,7 +7,9 @@ use mathlib.Core.Option.{Option, none, some}
 use lib.Dec.{leb}
 use lib.IntN.{pos}
 use lib.ListN.{length}
-use Rattle.settings.specs.Refusals.{first}
+use Rattle.refusals.specs.Answer.{Answer, refuses, gives, answer}
+use Rattle.refusals.specs.Numbers.{fileNumber}
+use Rattle.refusals.specs.Table.{first}
 use Rattle.form1.specs.Form1.{signedAt, trailer, distance, slots, settings, fileRows}
 use Rattle.form1.specs.declared.Bounds.{Bounds}
 use Rattle.form1.specs.declared.Contents.{Contents}
@@ -15,35 +17,13 @@ use Rattle.form1.specs.declared.Opened.{Opened}
 use Rattle.form1.specs.declared.Opened.the-variants.{Refused as Opened·Refused, Whole}
 use Rattle.form1.specs.declared.check.Checked.{Checked}
 use Rattle.form1.specs.declared.check.Checked.the-variants.{Passed, Refused as Checked·Refused}
-use Rattle.form1.specs.declared.Refusal.{Refusal}
-use Rattle.form1.specs.declared.Refusal.the-variants.{Size, End, Form, Slots, Distance, Records, Lent, Slot}
-
--- document 01's number of each refusal
-abbrev pub number : Refusal → ℕ
-number Size = 11
-number End = 12
-number Form = 13
-number Slots = 14
-number Distance = 15
-number Records = 16
-number Lent = 17
-number Slot = 19
 
 abbrev pub checked : Checked → Option ℕ
 checked Passed = none
-checked (Checked·Refused r) = some (number r)
-
--- a refusal by its number, or what was asked
-pub data Answer (A : Type 0) : Type 0 where
-  refuses : (number : ℕ) → Answer A
-  gives : A → Answer A
-
-abbrev pub answer : {A : Type 0} → Option ℕ → A → Answer A
-answer (some number) asked = refuses number
-answer none asked = gives asked
+checked (Checked·Refused r) = some (fileNumber r)
 
 abbrev pub said : Opened → Answer Contents
-said (Opened·Refused r) = refuses (number r)
+said (Opened·Refused r) = refuses (fileNumber r)
 said (Whole contents) = gives contents
 
 -- what the trailer says; the distance goes back from its start to the first record

@@ -2,16 +2,16 @@
 ghost use mathlib.Core.Path.{_≡_};
 ghost use Prim.Native.Nat.{_≤_};
 ghost use lib.ListN.{length};
-ghost use Rattle.settings.specs.Refusals.{first};
+ghost use Rattle.refusals.specs.Table.{first};
 ghost use Rattle.form1.specs.Form1.{fileRows};
 ghost use Rattle.form1.specs.Form1.{wrongSize, wrongEnd, wrongForm, wrongSlots, wrongDistance, recordsMissing};
 ghost use Rattle.form1.specs.Opening.{checked};
 use crate::RECORD;
-use crate::Refusal;
 use crate::fields::TRAILER;
 use crate::fields::byte;
 use crate::fields::distance;
 use crate::fields::slots;
+use refusals::FileRefusal;
 
 // The most bytes and the most slots of form 1.
 const MOST_BYTES: usize = 4096;
@@ -21,29 +21,29 @@ const MOST_SLOTS: usize = 64;
 // Whether a file passes 11 to 16, or the first that applies.
 pub enum Checked {
     Passed,
-    Refused(Refusal),
+    Refused(FileRefusal),
 }
 
 pub(crate) fn check(file: &[u8]) -> Checked
     ensures { λ r. ⌜ checked r ≡ first (fileRows (now (file .entry))) ⌝ }
 {
     if wrong_size(file) {
-        return Checked::Refused(Refusal::Size);
+        return Checked::Refused(FileRefusal::Size);
     }
     if wrong_end(file) {
-        return Checked::Refused(Refusal::End);
+        return Checked::Refused(FileRefusal::End);
     }
     if wrong_form(file) {
-        return Checked::Refused(Refusal::Form);
+        return Checked::Refused(FileRefusal::Form);
     }
     if wrong_slots(file) {
-        return Checked::Refused(Refusal::Slots);
+        return Checked::Refused(FileRefusal::Slots);
     }
     if wrong_distance(file) {
-        return Checked::Refused(Refusal::Distance);
+        return Checked::Refused(FileRefusal::Distance);
     }
     if records_missing(file) {
-        return Checked::Refused(Refusal::Records);
+        return Checked::Refused(FileRefusal::Records);
     }
     Checked::Passed
 }

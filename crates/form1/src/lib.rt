@@ -1,13 +1,14 @@
 // Form 1, the file on the card: whether a file has it, what its trailer says, and the record at a place. The format is
 // specs/Form1.antt; what comes back is specs/Opening.antt.
 ghost use mathlib.Core.Path.{_≡_};
-ghost use Rattle.form1.specs.Opening.{number as Opening·number, said, opening, boundsAt};
+ghost use Rattle.form1.specs.Opening.{said, opening, boundsAt};
 use crate::bytes::signed_at;
 use crate::check::Checked;
 use crate::check::check;
 use crate::fields::settings;
 use crate::fields::slots;
 use crate::fields::start;
+use refusals::FileRefusal;
 use settings::Settings;
 
 mod bytes;
@@ -17,36 +18,6 @@ mod fields;
 // The bytes of a record.
 pub const RECORD: usize = 8;
 
-// Why a file is not read: 11 to 17, then 19, in this order.
-pub enum Refusal {
-    Size,
-    End,
-    Form,
-    Slots,
-    Distance,
-    Records,
-    Lent,
-    Slot,
-}
-
-impl Refusal {
-    // Document 01's number.
-    pub fn number(self) -> u16
-        ensures { λ r. ⌜ r ≡ Opening·number self ⌝ }
-    {
-        match self {
-            Refusal::Size => 11,
-            Refusal::End => 12,
-            Refusal::Form => 13,
-            Refusal::Slots => 14,
-            Refusal::Distance => 15,
-            Refusal::Records => 16,
-            Refusal::Lent => 17,
-            Refusal::Slot => 19,
-        }
-    }
-}
-
 // What the trailer says; start is the place of the first record.
 pub struct Contents {
     pub settings: Settings,
@@ -55,7 +26,7 @@ pub struct Contents {
 }
 
 pub enum Opened {
-    Refused(Refusal),
+    Refused(FileRefusal),
     Whole(Contents),
 }
 

@@ -2,12 +2,12 @@
 -- and what a step tells of its slot.
 use Prim.Native.Nat.{ℕ, _≤_, _<_}
 use native.Mathlib.Omega.{arith}
-use mathlib.Core.Bool.{Bool, true, false, cond, not, _&&_}
+use mathlib.Core.Bool.{Bool, true, false, cond, not, _&&_, and-false}
 use mathlib.Core.Path.{_≡_, refl}
 use borrow.Author.Tests.{le-leb, lt-leb, leb-true, not-true, not-false}
 use lib.Dec.{leb}
 use Rattle.rule.proofs.Onward.{Passes}
-use Rattle.facts.proofs.Rules.{and-false, both}
+use Rattle.facts.proofs.Rules.{both}
 use Rattle.rule.specs.Reading.{slotsAfter, bridgesAfter, advanced}
 use Rattle.judge.specs.Steps.{passes, stepOf}
 use Rattle.rule.specs.Rule.{goesWith, follows}

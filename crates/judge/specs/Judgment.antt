@@ -10,7 +10,8 @@ use Rattle.settings.specs.declared.Settings.{Settings}
 use Rattle.judge.specs.declared.Verdict.{Verdict}
 use Rattle.judge.specs.declared.Verdict.the-variants.{Yes, No, Refused}
 use Rattle.rule.specs.Rule.{legal, windows, covered}
-use Rattle.settings.specs.Refusals.{refusal, number}
+use Rattle.refusals.specs.Numbers.{settingsNumber}
+use Rattle.settings.specs.Refusals.{refusal}
 
 -- yes or no with the window and covered counts, or a refusal's number and no counts
 pub data Judgment : Type 0 where
@@ -21,7 +22,7 @@ pub data Judgment : Type 0 where
 abbrev pub told : Verdict → Judgment
 told (Yes w c) = says true w c
 told No = says false 0 0
-told (Refused r) = refuses (number r)
+told (Refused r) = refuses (settingsNumber r)
 
 -- the marks are legal for these loads and both counts are at most their maximums; the minimums take no part
 unfoldable pub allowed : Settings → List ℤ → List ℕ → Bool

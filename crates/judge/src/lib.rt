@@ -5,8 +5,8 @@ ghost use Rattle.settings.specs.Refusals.{wrongOther};
 ghost use Rattle.judge.specs.Judgment.{judgment, told};
 use crate::marks::count;
 use crate::marks::legal;
+use refusals::SettingsRefusal;
 use settings::Checked;
-use settings::Refusal;
 use settings::Settings;
 use settings::check;
 
@@ -16,7 +16,7 @@ mod marks;
 pub enum Verdict {
     Yes { windows: u16, covered: u16 },
     No,
-    Refused(Refusal),
+    Refused(SettingsRefusal),
 }
 
 // Says yes exactly when the marks are legal for the loads and keep both maximums, with their window and covered counts.

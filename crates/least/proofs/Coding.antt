@@ -1,6 +1,6 @@
 -- Classes as bytes: what the tests of a byte say of its class.
 use Prim.Native.Nat.{ℕ, _<_}
-use mathlib.Core.Bool.{true, false, cond}
+use mathlib.Core.Bool.{Bool, true, false, cond}
 use mathlib.Core.List.{List}
 use mathlib.Core.Path.{_≡_, refl, ap, _∙_}
 use borrow.Author.Tests.{eq-eqb, ne-eqb}
@@ -30,7 +30,7 @@ module _ (m : ℕ) where
   unfolding coded allows goesWith
   can-be-over e = rw (ne-eqb m 0 e) (by (eqb m 1))
     where
-      by : (b : mathlib.Core.Bool.Bool) → allows (cond b over-only either) 2 ≡ true
+      by : (b : Bool) → allows (cond b over-only either) 2 ≡ true
       by true = refl
       by false = refl
 
@@ -43,7 +43,7 @@ module _ (m : ℕ) where
   unfolding coded allows goesWith
   can-be-uncovered e = rw (ne-eqb m 1 e) (by (eqb m 0))
     where
-      by : (b : mathlib.Core.Bool.Bool) → allows (cond b under-only either) 0 ≡ true
+      by : (b : Bool) → allows (cond b under-only either) 0 ≡ true
       by true = refl
       by false = refl
 

@@ -11,6 +11,7 @@ use lib.ListN.{length, drop, getD, drop-of-length-le, length-map, List·getD-map
 use Rattle.facts.proofs.Rules.{uncons, either-way}
 use Rattle.rule.specs.Ranges.{Class, allows}
 use Rattle.settings.specs.declared.Settings.{Settings}
+use Rattle.requests.proofs.Exact.{spend-capped, onward-le, no-room}
 use Rattle.requests.specs.Best.{spend, dearer, best, onward, after}
 use Rattle.least.specs.Codes.{coded, decoded}
 use Rattle.least.specs.Rows.{Behind, goneOn, wentOn}
@@ -35,22 +36,8 @@ module _ (room h : ℕ) where
   abbrev pub behindIt : (w : ℕ) → List Class → ℕ
   behindIt w cs = spend sentinel w λ v. best sentinel room h cs v
 
-  spend-le : {f : ℕ → ℕ} → ((v : ℕ) → f v ≤ sentinel) → (n : ℕ) → spend sentinel n f ≤ sentinel
-  spend-le e zero = omega arith
-  spend-le e (suc n) = e n
-
-  onward-le : (cs : List Class) (r b v : ℕ) → onward sentinel room h cs r b v ≤ sentinel
-  unfolding onward
-  onward-le [] r b v = omega arith
-  onward-le (c ∷ cs) r b v = omega arith
-
   goes-on-le : (w : ℕ) (cs : List Class) (r b : ℕ) → goesOn w cs r b ≤ sentinel
-  goes-on-le w cs r b = spend-le (onward-le cs r b) w
-
-  no-room : (cs : List Class) (b v : ℕ) → onward sentinel room h cs 0 b v ≡ sentinel
-  unfolding onward
-  no-room [] b v = refl
-  no-room (c ∷ cs) b v = omega arith
+  goes-on-le w cs r b = spend-capped sentinel (onward-le sentinel room h cs r b) w
 
   -- one slot more, that can be over or not
   abbrev oneOn : (w : ℕ) (over : Bool) → List Class → (r b : ℕ) → ℕ
@@ -71,7 +58,7 @@ module _ (room h : ℕ) where
 
   all-used : (w : ℕ) (cs : List Class) (b : ℕ) → goesOn w cs 0 b ≡ sentinel
   all-used zero cs b = refl
-  all-used (suc w) cs b = no-room cs b w
+  all-used (suc w) cs b = no-room sentinel room h cs b w
 
   none-left : (w r b : ℕ) → goesOn w [] r b ≡ sentinel
   unfolding onward

@@ -7,7 +7,7 @@ use mathlib.Core.Path.{_≡_, refl, _∙_}
 use borrow.Author.Tests.{ltb-true, ltb-false, lt-ltb, le-ltb}
 use lib.Dec.{ltb}
 use lib.ListN.{length, getD, length-append, List·getD-append}
-use Rattle.listing.specs.Text.{digits, decimal}
+use Rattle.listing.specs.Text.{digits, decimal, value, Digits, Decimal}
 
 -- what holds of one digit, and of a number when it holds of its tenth, holds of all numbers
 module _ (P : ℕ → List ℕ → Type 0) (one : (n : ℕ) → n < 10 → P n ((48 + n) ∷ []))
@@ -23,7 +23,7 @@ module _ (P : ℕ → List ℕ → Type 0) (one : (n : ℕ) → n < 10 → P n (
           let large : 10 ≤ n = ltb-false n 10 e in
           rw e (more n (digits turns (n / 10)) large (tenth (omega arith)))
 
-  pub by-digits : (n : ℕ) → P n (decimal n)
+  by-digits : (n : ℕ) → P n (decimal n)
   unfolding decimal
   by-digits n = by-turns n n (omega arith)
 
@@ -64,36 +64,26 @@ digits-at-most = by-digits (λ n ds. (d : ℕ) → n < 10 ^ suc d → length ds 
     several n ds h ih zero e = absurd (omega arith)
     several n ds h ih (suc d) e = omega (arith, length-append ds ((48 + n % 10) ∷ []), ih d (omega arith))
 
--- the number that digits say
-abbrev pub value : (before : ℕ) (ds : List ℕ) → ℕ
-value n [] = n
-value n (d ∷ ds) = value (n * 10 + (d - 48)) ds
-
 value-more : (n : ℕ) (ds : List ℕ) (d : ℕ) → value n (ds ++ (d ∷ [])) ≡ value n ds * 10 + (d - 48)
 value-more n [] d = refl
 value-more n (e ∷ ds) d = value-more (n * 10 + (e - 48)) ds d
 
-pub decimal-value : (n : ℕ) → value 0 (decimal n) ≡ n
+decimal-value : (n : ℕ) → value 0 (decimal n) ≡ n
 decimal-value =
     by-digits (λ n ds. value 0 ds ≡ n) (λ n h. omega arith)
     (λ n ds h e. value-more 0 ds (48 + n % 10) ∙ omega (arith, e))
-
--- every byte is a digit
-abbrev pub Digits : List ℕ → Type 0
-Digits [] = Unit
-Digits (d ∷ ds) = (48 ≤ d) × (d ≤ 57) × Digits ds
 
 digits-more : (ds : List ℕ) (d : ℕ) → 48 ≤ d → d ≤ 57 → Digits ds → Digits (ds ++ (d ∷ []))
 digits-more [] d h k t = (h, k, tt)
 digits-more (e ∷ ds) d h k (p, q, t) = (p, q, digits-more ds d h k t)
 
-pub decimal-digits : (n : ℕ) → Digits (decimal n)
+decimal-digits : (n : ℕ) → Digits (decimal n)
 decimal-digits =
     by-digits (λ n ds. Digits ds) (λ n h. (omega arith, omega arith, tt))
     (λ n ds h t. digits-more ds (48 + n % 10) (omega arith) (omega arith) t)
 
 -- the first is 0 of the number 0 alone
-pub no-leading-zero : (n : ℕ) → 1 ≤ n → 49 ≤ getD (decimal n) 0 48
+no-leading-zero : (n : ℕ) → 1 ≤ n → 49 ≤ getD (decimal n) 0 48
 no-leading-zero n h = first n .1 h
   where
     first : (n : ℕ) → (1 ≤ length (decimal n)) × (1 ≤ n → 49 ≤ getD (decimal n) 0 48)
@@ -102,3 +92,6 @@ no-leading-zero n h = first n .1 h
         (λ n ds h (k, e).
         let last : List ℕ = (48 + n % 10) ∷ [] in
         (omega (arith, length-append ds last), λ l. rw (List·getD-append ds last 48 0 k) (e (omega arith))))
+
+pub decimals : (n : ℕ) → Decimal n
+decimals n = record { only-digits = decimal-digits n; says = decimal-value n; no-leading-zero = no-leading-zero n }

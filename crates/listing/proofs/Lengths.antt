@@ -41,7 +41,7 @@ row-short i lo hi m h f g k =
       digits-at-most m 2 (omega arith),
     )
 
-pub counts-short : (word : List ℕ) (range : CountRange) → length word ≤ 7 → range .least < 65536 → range .most < 65536 →
+counts-short : (word : List ℕ) (range : CountRange) → length word ≤ 7 → range .least < 65536 → range .most < 65536 →
     length (counts word range) ≤ 20
 unfolding counts
 counts-short word range h f g =
@@ -71,7 +71,7 @@ unfolding said
 no-plan-short = omega (arith, line-length (ascii "no plan") [])
 
 -- both counts of a range are of 16 bits
-abbrev pub Small : CountRange → Type 0
+abbrev Small : CountRange → Type 0
 Small range = (range .least < 65536) × (range .most < 65536)
 
 pub planned-short : (w c : CountRange) (los his : List ℤ) (ms : List ℕ) → Small w → Small c → length (rows 0 los his ms) ≤ 1984 →

@@ -1,6 +1,6 @@
 -- The text of an answer, in bytes of ASCII (document 01, "What the plan printer writes").
 use Prim.Native.Char.{code}
-use Prim.Native.Nat.{ℕ, zero, suc, _+_, _/_, _%_, min}
+use Prim.Native.Nat.{ℕ, zero, suc, _+_, _-_, _*_, _/_, _%_, _≤_, min}
 use Prim.Native.String.{String}
 use Prim.Native.String as string
 use mathlib.Core.Bool.{cond}
@@ -8,7 +8,7 @@ use mathlib.Core.List.{List, [], _∷_, _++_}
 use mathlib.Core.Path.{_≡_}
 use lib.Dec.{ltb}
 use lib.IntN.{ℤ, pos, negsuc}
-use lib.ListN.{length}
+use lib.ListN.{length, getD}
 use lib.Seq.{sets}
 use Rattle.settings.specs.declared.CountRange.{CountRange}
 use Rattle.requests.specs.Promise.{Answer, refuses, no-plan, planned, Outcome}
@@ -27,6 +27,21 @@ digits (suc turns) n = cond (ltb n 10) ((48 + n) ∷ []) (digits turns (n / 10) 
 
 unfoldable pub decimal : ℕ → List ℕ
 decimal n = digits n n
+
+-- the number that digits say
+abbrev pub value : (before : ℕ) (ds : List ℕ) → ℕ
+value n [] = n
+value n (d ∷ ds) = value (n * 10 + (d - 48)) ds
+
+abbrev pub Digits : List ℕ → Type 0
+Digits [] = Unit
+Digits (d ∷ ds) = (48 ≤ d) × (d ≤ 57) × Digits ds
+
+-- What `decimal` gives (proofs/Decimals.antt).
+pub record Decimal (n : ℕ) : Type 0 where
+  pub only-digits : Digits (decimal n)
+  pub says : value 0 (decimal n) ≡ n
+  pub no-leading-zero : 1 ≤ n → 49 ≤ getD (decimal n) 0 48
 
 -- a negative one with a minus sign before it
 unfoldable pub signed : ℤ → List ℕ

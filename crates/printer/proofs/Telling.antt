@@ -7,12 +7,11 @@ use lib.ListN.{take}
 use Rattle.card.specs.Reading.{handed, reading}
 use Rattle.card.specs.declared.Reading.{Reading}
 use Rattle.card.specs.declared.Reading.the-variants.{Refused, Taken}
-use Rattle.form1.specs.Opening.{number}
-use Rattle.form1.specs.declared.Refusal.{Refusal}
-use Rattle.requests.specs.Request.{asked}
+use Rattle.refusals.specs.Numbers.{fileNumber}
+use Rattle.refusals.specs.declared.FileRefusal.{FileRefusal}
 use Rattle.settings.specs.declared.Settings.{Settings}
 use Rattle.requests.specs.Promise.{refuses, Outcome, Keeps}
-use Rattle.requests.specs.Request.{numbered}
+use Rattle.requests.specs.Request.{asked, numbered}
 use Rattle.printer.specs.Printing.{Answered, OfFile}
 
 -- the outcome of a refusal by its number; nothing more is printed of it
@@ -25,7 +24,7 @@ module _ (file : List ℕ) (los his : List ℤ) (ms : List ℕ) {r : Reading} {l
       Answered (handed q los′ his′ .answer) los′ his′ ms o → OfFile file los his ms o
   by {q} e o a = subst (λ x. Answered (x .answer) (x .lowest) (x .highest) ms o) (ap (λ p. handed p los′ his′) (sym e) ∙ read) a
 
-  pub of-refusal : {f : Refusal} → r ≡ Refused f → OfFile file los his ms (refusal-of (number f))
+  pub of-refusal : {f : FileRefusal} → r ≡ Refused f → OfFile file los his ms (refusal-of (fileNumber f))
   of-refusal e = by e _ refl
 
   pub of-plan : {s : Settings} {n : ℕ} → r ≡ Taken s n → (o : Outcome) →

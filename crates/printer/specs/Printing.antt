@@ -4,12 +4,11 @@ use mathlib.Core.List.{List}
 use mathlib.Core.Path.{_≡_}
 use lib.IntN.{ℤ, pos}
 use lib.ListN.{length, take, replicate}
+use Rattle.refusals.specs.Answer.{Answer, refuses, gives}
 use Rattle.card.specs.Reading.{Header, reading}
-use Rattle.form1.specs.Opening.{Answer, refuses, gives}
-use Rattle.requests.specs.Request.{asked}
 use Rattle.listing.specs.Text.{text, Written}
 use Rattle.requests.specs.Promise.{refuses as Promise·refuses, Outcome, Keeps}
-use Rattle.requests.specs.Request.{numbered}
+use Rattle.requests.specs.Request.{asked, numbered}
 
 -- the whole text of an outcome that P holds of stands in the buffer, and `behind` is where it ends
 pub record Printed (P : Outcome → Type 0) (before after : List ℕ) (behind : ℕ) : Type 0 where

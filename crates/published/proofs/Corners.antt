@@ -48,10 +48,10 @@ module _ (X : List ℤ) (k : ℤ) (s : Run) (w : Within (length X) s) where
   slots-from : From X (s .first) (drop (s .first) X)
   slots-from = from X (s .first) (length X - s .first) (omega (arith, w))
 
-  pub no-bridges : ((j : ℕ) → Holds j s → k <ℤ load X j) → bridges k X s ≤ 0
+  no-bridges : ((j : ℕ) → Holds j s → k <ℤ load X j) → bridges k X s ≤ 0
   no-bridges o = all-over k X (size s) slots-from (λ j lj jn. o j (omega arith, omega (arith, w)))
 
-  pub over-within : bridges k X s ≤ 0 → (j : ℕ) → Holds j s → k <ℤ load X j
+  over-within : bridges k X s ≤ 0 → (j : ℕ) → Holds j s → k <ℤ load X j
   over-within u j hs = each-over k X (size s) slots-from u j (hs .0) (omega (arith, w, hs)) (omega (arith, w, hs))
 
 module _ (X : List ℤ) (yc len : ℕ) (k : ℤ) (zc : ℕ) (S : List Run) where

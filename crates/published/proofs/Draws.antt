@@ -10,7 +10,7 @@ use lib.IntN.{ℤ}
 use lib.ListN.{length, take}
 use lib.Signed.{_<ℤ_, clashℤ}
 use Rattle.rule.proofs.Loads.{carried-over, carried-under}
-use Rattle.rule.proofs.Plan.{State, out, on, Plan, done, skip, opens, close, more as longer, bridges as bridged, legal→plan}
+use Rattle.rule.proofs.Plan.{State, out, on, PlanBy, done, skip, opens, close, more as longer, bridges as bridged, legal→plan}
 use Rattle.rule.specs.Rule.{goesWith, rest, count, carries, legal, windows, covered}
 use Rattle.published.proofs.Sets.{Within, Apart, each-to}
 use Rattle.published.proofs.Slots.{From, none, more, from, from-drop, unders-over, unders-under}
@@ -23,12 +23,8 @@ Draws k len h X ms =
     × (length (runs 0 ms) ≡ windows ms) × (sum size (runs 0 ms) ≡ covered ms)
 
 module _ (k : ℤ) (room h : ℕ) where
-  -- marks for loads, as the family in which plans are proved
-  abbrev pub Marks : State → List ℤ → List ℕ → Type 0
-  Marks st xs ms = Plan (λ m x. carries k x m ≡ true) 0 room h st xs ms
-
   -- no window is under way outside one
-  pub fresh : {q : ℕ} {xs : List ℤ} {ms : List ℕ} → Marks (out q) xs ms → length (rest ms) ≡ 0
+  pub fresh : {q : ℕ} {xs : List ℤ} {ms : List ℕ} → PlanBy (carries k) room h (out q) xs ms → length (rest ms) ≡ 0
   unfolding rest
   fresh done = refl
   fresh (skip g p) = refl
@@ -51,7 +47,7 @@ module _ (k : ℤ) (room h : ℕ) (X : List ℤ) where
     ends : Over (i + length (rest ms))
 
   rests : {c : Bool} {i r b : ℕ} {xs : List ℤ} {ms : List ℕ} →
-      Marks k room h (on c r b) xs ms → From X (suc i) xs → i < length X → Closes c i → Rest i r b xs ms
+      PlanBy (carries k) room h (on c r b) xs ms → From X (suc i) xs → i < length X → Closes c i → Rest i r b xs ms
   unfolding rest unders goesWith
   rests {i = i} (close p) f hi (over-slot o) =
       let n = fresh k room h p in
@@ -154,7 +150,7 @@ module _ (k : ℤ) (room h : ℕ) (X : List ℤ) where
         ahead (runs (suc l) ms) (runs (suc l) ms) (λ o. inl (omega arith)) (goes-on l n (runs (suc l) ms)) (d .cover),
       )
 
-  draw : {st : State} {l : ℕ} {xs : List ℤ} {ms : List ℕ} → Marks k room h st xs ms → From X l xs → Drawn l ms
+  draw : {st : State} {l : ℕ} {xs : List ℤ} {ms : List ℕ} → PlanBy (carries k) room h st xs ms → From X l xs → Drawn l ms
   unfolding rest runs windows covered count goesWith
   draw done (none e) =
       record { kept = tt; apart = tt; cover = λ j lj jn o. absurd (omega arith); total = omega arith; number = refl }
@@ -192,7 +188,7 @@ module _ (k : ℤ) (room h : ℕ) (X : List ℤ) where
       let e = extended ms d in
       record { kept = e .0; apart = d .apart; cover = e .1; total = omega (arith, d .total); number = d .number }
 
-  drawing : {ms : List ℕ} → Marks k room h (out 0) X ms → Draws k (suc room) h X ms
+  drawing : {ms : List ℕ} → PlanBy (carries k) room h (out 0) X ms → Draws k (suc room) h X ms
   drawing {ms} p =
       let d = draw p (from X 0 (length X) (omega arith)) in
       let n = fresh k room h p in

@@ -43,7 +43,7 @@ which P [] e = absurd e
 among : {s : Run} {S : List Run} → Some (λ t. t ≡ s) S → s ∈ S
 among {s} {S} e = let (t, m, p) = which (λ t. t ≡ s) S e in subst (λ t. t ∈ S) p m
 
-pub subset : {s : Run} {S T : List Run} → S ⊆ T → s ∈ S → s ∈ T
+subset : {s : Run} {S T : List Run} → S ⊆ T → s ∈ S → s ∈ T
 subset {T = T} e m = among (each (λ s. Some (λ t. t ≡ s) T) e m)
 
 pub into : {s : Run} {S T : List Run} → s ∈ S → ((t : Run) → t ∈ T → t ∈ S) → (t : Run) → t ∈ (s ∷ T) → t ∈ S

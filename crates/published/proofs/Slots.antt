@@ -1,5 +1,5 @@
 -- The loads from a slot on, and how many of them are under.
-use Prim.Native.Nat.{ℕ, zero, suc, _+_, _-_, _≤_, _<_}
+use Prim.Native.Nat.{ℕ, zero, suc, _+_, _≤_, _<_}
 use native.Mathlib.Nat.{eq-or-lt-of-le}
 use native.Mathlib.Omega.{arith}
 use mathlib.Core.List.{List, [], _∷_}
@@ -10,7 +10,7 @@ use lib.IntN.{ℤ, pos}
 use lib.ListN.{length, take, drop, drop-of-length-le}
 use lib.Seq.{drop-cons}
 use lib.Signed.{_<ℤ_, _≤ℤ_, leZ, leZ-yes, clashℤ}
-use Rattle.rule.proofs.Loads.{side}
+use Rattle.facts.proofs.Integers.{side}
 use Rattle.facts.proofs.Rules.{holds, refuted}
 use Rattle.published.specs.Published.{load, unders}
 

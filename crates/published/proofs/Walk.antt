@@ -10,10 +10,11 @@ use mathlib.Core.Path.{_≡_, refl, sym, ap, ap₂, _∙_, subst}
 use lib.IntN.{ℤ}
 use lib.ListN.{length, take}
 use lib.Signed.{_<ℤ_, _≤ℤ_, clashℤ}
-use Rattle.rule.proofs.Loads.{carry-over, carry-under, side}
-use Rattle.rule.proofs.Plan.{out, on, done, skip, opens, close, more as longer, bridges as bridged, plan→legal}
+use Rattle.facts.proofs.Integers.{side}
+use Rattle.rule.proofs.Loads.{carry-over, carry-under}
+use Rattle.rule.proofs.Plan.{out, on, PlanBy, done, skip, opens, close, more as longer, bridges as bridged, plan→legal}
 use Rattle.rule.specs.Rule.{goesWith, rest, carries, legal, windows, covered}
-use Rattle.published.proofs.Draws.{Marks, fresh, draws}
+use Rattle.published.proofs.Draws.{fresh, draws}
 use Rattle.published.proofs.Sets.{Within, _∈_, each, all, some, which, into, meet, sets}
 use Rattle.published.proofs.Slots.{From, none, more, from, from-drop, unders-over, unders-under}
 use Rattle.published.specs.Published.{Run, Holds, size, Some, sum, _⊆_, load, unders, Window, Obeys, runs}
@@ -35,13 +36,13 @@ module _ (k : ℤ) (room h yc zc : ℕ) (X : List ℤ) (S : List Run) (rule : Ob
   -- marks from slot l on, outside a window
   record Outside (l : ℕ) (xs : List ℤ) : Type 0 where
     marks : List ℕ
-    plan : Marks k room h (out 0) xs marks
+    plan : PlanBy (carries k) room h (out 0) xs marks
     members : (t : Run) → t ∈ runs l marks → t ∈ S
 
   -- marks from slot l on, with n slots left of the window under way
   record Inside (c : Bool) (l n r b : ℕ) (xs : List ℤ) : Type 0 where
     marks : List ℕ
-    plan : Marks k room h (on c r b) xs marks
+    plan : PlanBy (carries k) room h (on c r b) xs marks
     left : length (rest marks) ≡ n
     members : (t : Run) → t ∈ runs l marks → t ∈ S
 

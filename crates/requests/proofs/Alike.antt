@@ -1,5 +1,5 @@
 -- The promise decides the answer and both load slices.
-use Prim.Native.Nat.{ℕ, _≤_, _<_}
+use Prim.Native.Nat.{ℕ, _<_}
 use native.Mathlib.Nat.{le-antisymm}
 use native.Mathlib.Omega.{arith}
 use mathlib.Core.List.{List}
@@ -8,10 +8,11 @@ use mathlib.Core.Path.{_≡_, refl, sym, ap, _∙_}
 use lib.IntN.{ℤ, pos}
 use lib.Seq.{ext-getD}
 use lib.Signed.{_≤ℤ_, ≤ℤ-refl}
-use Rattle.rule.specs.Rule.{LeastOver}
+use Rattle.facts.proofs.Integers.{≤ℤ-trans, ≤ℤ-antisym}
+use Rattle.rule.proofs.Leasts.{no-higher}
+use Rattle.settings.proofs.Passing.{same-range}
 use Rattle.settings.specs.declared.CountRange.{CountRange}
 use Rattle.requests.proofs.Choices.{in-slots}
-use Rattle.requests.proofs.Integers.{≤ℤ-trans, ≤ℤ-antisym}
 use Rattle.requests.specs.Promise.{Answer, refuses, no-plan, planned, Outcome, Held, Unaltered, Raised, Planned, Answers, Keeps, Alike}
 use Rattle.requests.specs.Request.{Request, slots, at}
 
@@ -19,17 +20,11 @@ use Rattle.requests.specs.Request.{Request, slots, at}
 unaltered : {r : Request} {o p : Outcome} → o .answer ≡ p .answer → Unaltered r o → Unaltered r p → Alike o p
 unaltered e u v = record { answer = e; lowest = u .lowest ∙ sym (v .lowest); highest = u .highest ∙ sym (v .highest) }
 
-no-larger : (count : List ℕ → ℕ) {P : List ℕ → Type 0} (v w : ℕ) → LeastOver P count v → LeastOver P count w → v ≤ w
-no-larger count v w a b = let (ms, p, e) = b .met in omega (arith, e, a .least ms p)
-
-same-range : (w w′ : CountRange) → w .least ≡ w′ .least → w .most ≡ w′ .most → w ≡ w′
-same-range w w′ e f = ap (λ n. record { least = n; most = w .most }) e ∙ ap (λ n. record { least = w′ .least; most = n }) f
-
 module _ (r : Request) where
   same-counts : (count : List ℕ → ℕ) (given w w′ : CountRange) → Raised r count given w → Raised r count given w′ → w ≡ w′
   same-counts count given w w′ a b =
       let v : a .value ≡ b .value =
-      le-antisymm (no-larger count _ _ (a .least) (b .least)) (no-larger count _ _ (b .least) (a .least)) in
+      le-antisymm (no-higher (λ ms p. p) (b .least) (a .least)) (no-higher (λ ms p. p) (a .least) (b .least)) in
       same-range w w′ (omega (arith, a .minimum, b .minimum)) (omega (arith, a .maximum, b .maximum))
 
   module _ (o p : Outcome) (w c w′ c′ : CountRange) (a : Planned r w c o) (b : Planned r w′ c′ p) (i : ℕ) (h : i < slots r) where

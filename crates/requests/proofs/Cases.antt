@@ -16,7 +16,8 @@ use Rattle.requests.specs.Promise.{Outcome, Keeps}
 use Rattle.requests.specs.Request.{Request, ranges, refused, crossed, WellFormed, PlanOf}
 use Rattle.requests.specs.Solution.{classes, possible, loss, outcome}
 use Rattle.rule.specs.Ranges.{classOf, allows}
-use Rattle.settings.specs.Refusals.{first, wrongSlots, wrongOther, wrongLength, wrongBridges, wrongCounts, refusalBy, refusal}
+use Rattle.refusals.specs.Table.{first}
+use Rattle.settings.specs.Refusals.{wrongSlots, wrongOther, wrongLength, wrongBridges, wrongCounts, refusalBy, refusal}
 use Rattle.rule.specs.Rule.{over, goesWith, agrees, follows, ordered, rest, drawn, count, keeps as Rule·keeps, every, legalBy, windows, covered}
 
 -- marks that are a plan of the request, where there is one

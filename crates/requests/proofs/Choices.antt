@@ -6,15 +6,10 @@ use mathlib.Core.Path.{_≡_, refl, sym, ap, _∙_, subst}
 use lib.IntN.{ℤ}
 use lib.ListN.{length, set}
 use lib.Signed.{_≤ℤ_, ≤ℤ-refl}
+use Rattle.facts.proofs.Integers.{≤ℤ-trans, ≤ℤ-antisym}
+use Rattle.facts.proofs.Rules.{map-set}
 use Rattle.rule.specs.Ranges.{Range, Proper, ChosenIn, Class, classOf}
-use Rattle.requests.proofs.Integers.{≤ℤ-trans, ≤ℤ-antisym}
 use Rattle.requests.specs.Request.{range, paired, at}
-
-pub chosen-length : (rs : List Range) (xs : List ℤ) → ChosenIn rs xs → length xs ≡ length rs
-chosen-length [] [] c = refl
-chosen-length [] (x ∷ xs) c = absurd c
-chosen-length (r ∷ rs) [] c = absurd c
-chosen-length (r ∷ rs) (x ∷ xs) (l, u, c) = ap suc (chosen-length rs xs c)
 
 pub paired-length : (los his : List ℤ) → length los ≡ length his → length (paired los his) ≡ length los
 paired-length [] his e = refl
@@ -28,11 +23,6 @@ paired-set (l ∷ los) [] zero lo hi = refl
 paired-set (l ∷ los) [] (suc i) lo hi = refl
 paired-set (l ∷ los) (h ∷ his) zero lo hi = refl
 paired-set (l ∷ los) (h ∷ his) (suc i) lo hi = ap (λ rs. range l h ∷ rs) (paired-set los his i lo hi)
-
-pub map-set : {A B : Type 0} (f : A → B) (l : List A) (i : ℕ) (y : A) → map f (set l i y) ≡ set (map f l) i (f y)
-map-set f [] i y = refl
-map-set f (x ∷ xs) zero y = refl
-map-set f (x ∷ xs) (suc i) y = ap (λ zs. f x ∷ zs) (map-set f xs i y)
 
 abbrev pub Between : (los his xs : List ℤ) (i : ℕ) → Type 0
 Between los his xs i = (at los i ≤ℤ at xs i) × (at xs i ≤ℤ at his i)
@@ -76,13 +66,6 @@ unpin (lo ∷ los) (hi ∷ his) (y ∷ xs) zero x p q l u (m, v, c) =
 unpin (lo ∷ los) (hi ∷ his) (y ∷ xs) (suc i) x p q l u (m, v, c) =
     let (d, s, e) = unpin los his xs i x (omega arith) (omega arith) l u c in
     ((m, v, d), omega arith, e)
-
--- ranges whose ends do not cross, slot by slot
-pub proper-slots : (los his : List ℤ) (i : ℕ) → i < length los → i < length his → Proper (paired los his) → at los i ≤ℤ at his i
-proper-slots [] his i p q c = absurd (omega arith)
-proper-slots (lo ∷ los) [] i p q c = absurd (omega arith)
-proper-slots (lo ∷ los) (hi ∷ his) zero p q (l, c) = l
-proper-slots (lo ∷ los) (hi ∷ his) (suc i) p q (l, c) = proper-slots los his i (omega arith) (omega arith) c
 
 -- one range in place of another, by its class
 proper-set : (rs : List Range) (i : ℕ) (lo hi : ℤ) → lo ≤ℤ hi → Proper rs → Proper (set rs i (range lo hi))

@@ -2,8 +2,8 @@
 use Rattle.requests.proofs.Loosening.{loosening, loosening-answers}
 use Rattle.requests.proofs.Outcomes.{least-windows, least-covered}
 use Rattle.requests.proofs.Requests.{formed}
-use Rattle.requests.proofs.Settled.{unlimited-formed, from-unlimited, least-unlimited, counting, settling-under, settling-over, settling-answers-under, settling-answers-over}
-use Rattle.requests.specs.Demand3.{Demand3, unlimited}
+use Rattle.requests.proofs.Settled.{some-least, counting, settling-under, settling-over, settling-answers-under, settling-answers-over}
+use Rattle.requests.specs.Demand3.{Demand3}
 
 pub demand3 : Demand3
 demand3 =
@@ -12,10 +12,7 @@ demand3 =
       loosening-answers = loosening-answers;
       least-windows = least-windows;
       least-covered = least-covered;
-      least-unlimited = λ r w ms p.
-          let good = formed .0 w in
-          let (v, l) = least-windows (unlimited r) (formed .1 (unlimited-formed r good)) ms (from-unlimited r good ms p) in
-          (v, least-unlimited r good l);
+      least-unlimited = λ r w. some-least r (formed .0 w);
       settling-under = λ r w. settling-under r (formed .0 w);
       settling-over = λ r w. settling-over r (formed .0 w);
       counting = λ r w. counting r (formed .0 w);

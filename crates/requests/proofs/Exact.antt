@@ -6,20 +6,16 @@ use mathlib.Core.Bool.{Bool, true, false, cond, false≢true}
 use mathlib.Core.List.{List, [], _∷_}
 use mathlib.Core.Path.{_≡_, refl}
 use Rattle.facts.proofs.Rules.{at-most}
-use Rattle.rule.proofs.Plan.{State, out, on, Plan, done, skip, opens, close, more, bridges, legal→plan, plan→legal}
+use Rattle.rule.proofs.Plan.{State, out, on, PlanBy, done, skip, opens, close, more, bridges, legal→plan, plan→legal}
 use Rattle.rule.specs.Ranges.{Class, under-only, over-only, either, allows}
 use Rattle.rule.specs.Rule.{goesWith, count, legalBy, windows, covered}
 use Rattle.requests.specs.Best.{spend, dearer, best, onward, after}
 
 module _ (room h : ℕ) where
-  -- marks for classes, as the family in which plans are proved
-  abbrev pub Marks : State → List Class → List ℕ → Type 0
-  Marks = Plan (λ m c. allows c m ≡ true) 0 room h
-
   -- some plan with at most w windows covers at most c slots
   pub record Found (st : State) (cs : List Class) (w c : ℕ) : Type 0 where
     pub marks : List ℕ
-    pub plan : Marks st cs marks
+    pub plan : PlanBy allows room h st cs marks
     pub few : windows marks ≤ w
     pub short : covered marks ≤ c
 
@@ -53,6 +49,10 @@ module _ (T : ℕ) where
   spend-le {m = suc m} {n = zero} e c = absurd (omega arith)
   spend-le {m = suc m} {n = suc n} e c = c m n (omega arith)
 
+  pub spend-capped : {f : ℕ → ℕ} → ((v : ℕ) → f v ≤ T) → (n : ℕ) → spend T n f ≤ T
+  spend-capped e zero = omega arith
+  spend-capped e (suc n) = e n
+
   split-le : (b : Bool) {x y x′ y′ : ℕ} → x ⊑ x′ → y ⊑ y′ → cond b x y ⊑ cond b x′ y′
   split-le true e f = e
   split-le false e f = f
@@ -74,6 +74,17 @@ module _ (T room h : ℕ) where
   unfolding best
   best-le [] w = omega arith
   best-le (c ∷ cs) w = at-most (allows c 0) _ _ (best-le cs w) (omega arith)
+
+  pub onward-le : (cs : List Class) (r b w : ℕ) → onward T room h cs r b w ≤ T
+  unfolding onward
+  onward-le [] r b w = omega arith
+  onward-le (c ∷ cs) r b w = omega arith
+
+  -- a window that goes on wants a slot left to it
+  pub no-room : (cs : List Class) (b w : ℕ) → onward T room h cs 0 b w ≡ T
+  unfolding onward
+  no-room [] b w = refl
+  no-room (c ∷ cs) b w = omega arith
 
   pub fewer : (cs : List Class) {w w′ : ℕ} → w ≤ w′ → best T room h cs w′ ≤ best T room h cs w
   fewer cs s = more-room cs (le-refl 0) (le-refl 0) s .0
@@ -131,7 +142,8 @@ module _ (T room h : ℕ) where
         let spare = more-room cs (le-refl r) (le-suc b) (le-refl w) .1 in
         omega (arith, spare)
 
-  floor : {st : State} {cs : List Class} {ms : List ℕ} (w : ℕ) → Marks room h st cs ms → windows ms ≤ w → least st cs w ≤ covered ms
+  floor : {st : State} {cs : List Class} {ms : List ℕ} (w : ℕ) → PlanBy allows room h st cs ms → windows ms ≤ w →
+      least st cs w ≤ covered ms
   unfolding best windows covered count
   floor w done e = omega arith
   floor w (skip m p) e = rw m (floor w p e)

@@ -9,22 +9,20 @@ use borrow.Author.Tests.{leb-true}
 use lib.IntN.{ℤ}
 use lib.ListN.{length}
 use Rattle.judge.proofs.Allowing.{allowing, saying}
+use Rattle.rule.proofs.Leasts.{same-least}
 use Rattle.rule.proofs.Onward.{as-long}
 use Rattle.settings.proofs.Passing.{Passing, passing, beside}
 use Rattle.rule.specs.Ranges.{Class}
-use Rattle.rule.specs.Rule.{carries, legal, windows, covered, LeastOver}
+use Rattle.rule.specs.Rule.{carries, legal, LeastOver}
 use Rattle.settings.specs.declared.Settings.{Settings}
 use Rattle.requests.proofs.Choices.{from-slots}
 use Rattle.requests.proofs.Least.{least-windows, least-covered}
 use Rattle.requests.proofs.Narrowing.{along-length, along-at, stays, exact}
 use Rattle.requests.proofs.Requests.{Formed, formed, FitsAt, small, width, chosen-slots, possible→fits, fits→possible, plan→fits, fits→plan}
-use Rattle.requests.specs.Promise.{Outcome, lowestAfter, highestAfter, Narrowed, Drawn, Keeps}
+use Rattle.requests.specs.Promise.{refuses, Outcome, lowestAfter, highestAfter, Narrowed, Drawn, Keeps}
 use Rattle.requests.specs.Request.{Request, slots, at, Refused, refused, WellFormed, PlanOf}
-use Rattle.requests.specs.Solution.{sentinel, classes, cheapest, sparsest, possible, loss, found, outcomeBy, outcome}
-
-leasts : {P Q : List ℕ → Type 0} {count : List ℕ → ℕ} {v : ℕ} → ((ms : List ℕ) → P ms → Q ms) → ((ms : List ℕ) → Q ms → P ms) →
-    LeastOver P count v → LeastOver Q count v
-leasts f g l = let (ms, p, e) = l .met in record { met = (ms, f ms p, e); least = λ ms q. l .least ms (g ms q) }
+use Rattle.requests.specs.Solution.{sentinel, classes, cheapest, sparsest, possible, loss}
+use Rattle.requests.specs.Solution.{found, unaltered, outcomeBy, outcome}
 
 module _ (r : Request) (good : Formed r) where
   abbrev s : Settings
@@ -80,7 +78,7 @@ module _ (r : Request) (good : Formed r) where
 
     -- a least count over the plans by their classes
     by-plans : {count : List ℕ → ℕ} {v : ℕ} → LeastOver (FitsAt r cs) count v → LeastOver (PlanOf r) count v
-    by-plans = leasts (λ ms f. fits→plan r good f) (λ ms p. plan→fits r good p)
+    by-plans = same-least (λ ms f. fits→plan r good f) (λ ms p. plan→fits r good p)
 
     kept : WellFormed r → Keeps r (found r ms)
     kept w = (
@@ -105,6 +103,9 @@ module _ (r : Request) (good : Formed r) where
       },
     )
 
+pub refusal-kept : (r : Request) {f : Refused} → refused r ≡ some f → Keeps r (unaltered r (refuses f))
+refusal-kept r e = (e, record { lowest = refl; highest = refl; marks = refl })
+
 -- a plan, where there is one, makes the outcome that keeps the promise
 pub keeps : (r : Request) (ms : List ℕ) → (WellFormed r → possible (r .settings) (classes r) ≡ true → PlanOf r ms) →
     Keeps r (outcome r ms)
@@ -112,7 +113,7 @@ unfolding outcome
 keeps r ms plan = by (refused r) (possible (r .settings) (classes r)) refl refl
   where
     by : (f : Option Refused) (b : Bool) → refused r ≡ f → possible (r .settings) (classes r) ≡ b → Keeps r (outcomeBy f b r ms)
-    by (some f) b p q = (p, record { lowest = refl; highest = refl; marks = refl })
+    by (some f) b p q = refusal-kept r p
     by none false p q = (
       p,
       (λ ms m. true≢false (sym (fits→possible r (formed .0 p) (plan→fits r (formed .0 p) m)) ∙ q)),

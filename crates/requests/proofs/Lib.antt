@@ -3,7 +3,6 @@ pub mod Cases
 pub mod Choices
 pub mod Demand3
 pub mod Exact
-pub mod Integers
 pub mod Keeping
 pub mod Least
 pub mod Loosening

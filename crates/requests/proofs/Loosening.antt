@@ -5,13 +5,14 @@ use mathlib.Core.List.{List}
 use mathlib.Core.Path.{_≡_, sym, _∙_, subst}
 use mathlib.Core.Bool.{true}
 use lib.IntN.{ℤ}
+use Rattle.facts.proofs.Integers.{≤ℤ-trans}
+use Rattle.rule.proofs.Leasts.{no-higher}
 use Rattle.rule.proofs.Loosening.{loosened}
 use Rattle.rule.specs.Ranges.{ChosenIn}
 use Rattle.rule.specs.Rule.{carries, legal, windows, covered, LeastOver}
 use Rattle.settings.specs.declared.CountRange.{CountRange}
 use Rattle.requests.proofs.Choices.{in-slots, from-slots}
-use Rattle.requests.proofs.Integers.{≤ℤ-trans}
-use Rattle.requests.proofs.Outcomes.{planned-so, planned-where}
+use Rattle.requests.proofs.Outcomes.{planned-so, planned-where, least-windows, least-covered}
 use Rattle.requests.proofs.Requests.{formed, width, chosen-slots}
 use Rattle.requests.specs.Demand3.{Wider, Looser, Loosens, LoosensAnswer}
 use Rattle.requests.specs.Promise.{Raised, planned, Outcome, Keeps}
@@ -55,17 +56,27 @@ module _ (t l : Request) (t-formed : WellFormed t) (l-formed : WellFormed l) (lo
         occurs = m .occurs;
       }
 
-  no-higher : (count : List ℕ → ℕ) (v w : ℕ) → LeastOver (PlanOf t) count v → LeastOver (PlanOf l) count w → w ≤ v
-  no-higher count v w a b = let (ms, p, e) = a .met in omega (arith, e, b .least ms (plans ms p))
+  -- a least count of t, with that of l
+  counts : {count : List ℕ → ℕ} → ((ms : List ℕ) → PlanOf l ms → (w : ℕ) × LeastOver (PlanOf l) count w) →
+      (v : ℕ) → LeastOver (PlanOf t) count v → (w : ℕ) × LeastOver (PlanOf l) count w × (w ≤ v)
+  counts some v a =
+      let (ms, p, _) = a .met in
+      let (w, b) = some ms (plans ms p) in
+      (w, b, no-higher plans a b)
 
   pub loosening : Loosens t l
-  loosening = record { plans = plans; loads = loads; windows = no-higher windows; covered = no-higher covered }
+  loosening =
+      record {
+        plans = plans;
+        loads = loads;
+        windows = counts (least-windows l l-formed);
+        covered = counts (least-covered l l-formed);
+      }
 
   minimum : (count : List ℕ → ℕ) (given given′ w w′ : CountRange) → Wider given′ given →
       Raised t count given w → Raised l count given′ w′ → w′ .least ≤ w .least
   minimum count given given′ w w′ g a b =
-      let e = no-higher count (a .value) (b .value) (a .least) (b .least) in
-      omega (arith, e, g .least, a .minimum, b .minimum)
+      omega (arith, no-higher plans (a .least) (b .least), g .least, a .minimum, b .minimum)
 
   pub loosening-answers : (first second : Outcome) → Keeps t first → Keeps l second →
       (w c : CountRange) → first .answer ≡ planned w c → LoosensAnswer t first second w c

@@ -8,24 +8,27 @@ use lib.IntN.{ℤ, pos, sucℤ}
 use lib.ListN.{length, set, length-set}
 use lib.Seq.{set-getD}
 use lib.Signed.{≤ℤ-refl}
+use Rattle.facts.proofs.Integers.{lt→suc-le, le→lt-suc}
+use Rattle.rule.proofs.Classes.{class-over, class-under}
+use Rattle.rule.proofs.Leasts.{same-least}
 use Rattle.rule.proofs.Loads.{lt→over, le→under}
 use Rattle.rule.proofs.Onward.{as-long}
 use Rattle.settings.proofs.Passing.{Passing, beside}
 use Rattle.rule.proofs.Tally.{windows-le}
 use Rattle.rule.specs.Ranges.{under-only, over-only, classOf}
-use Rattle.rule.specs.Rule.{carries, windows, covered, LeastOver}
+use Rattle.rule.specs.Rule.{carries, windows, LeastOver}
 use Rattle.requests.proofs.Choices.{paired-set, replaced-proper, replaced-class}
-use Rattle.requests.proofs.Integers.{lt→suc-le, le→lt-suc}
-use Rattle.requests.proofs.Outcomes.{planned-so, none-so, planned-where}
+use Rattle.requests.proofs.Outcomes.{planned-so, none-so, says-none, planned-where, least-windows}
 use Rattle.requests.proofs.Requests.{Formed, formed, class-slots, chosen-slots, unlimited→fits, fits→unlimited}
 use Rattle.requests.proofs.Settling.{settled-under, settled-over}
 use Rattle.requests.specs.Demand3.{LeastUnlimited, Settles, unlimited, Counts, SettlesAnswer}
 use Rattle.requests.specs.Promise.{Outcome, Keeps}
-use Rattle.requests.specs.Request.{range, Request, slots, ranges, at, paired, PlanOf, UnlimitedPlanOf, Open, settledUnder, settledOver}
+use Rattle.requests.specs.Request.{range, Request, ranges, at, paired, PlanOf, UnlimitedPlanOf}
+use Rattle.requests.specs.Request.{Open, settledUnder, settledOver}
 
 -- the plans with the window maximum ignored are those of the window range 0 to n
 module _ (r : Request) (good : Formed r) where
-  pub unlimited-formed : Formed (unlimited r)
+  unlimited-formed : Formed (unlimited r)
   unlimited-formed =
       record {
         pass = record {
@@ -39,7 +42,7 @@ module _ (r : Request) (good : Formed r) where
         proper = good .proper;
       }
 
-  pub from-unlimited : (ms : List ℕ) → UnlimitedPlanOf r ms → PlanOf (unlimited r) ms
+  from-unlimited : (ms : List ℕ) → UnlimitedPlanOf r ms → PlanOf (unlimited r) ms
   from-unlimited ms p =
       let (xs, c, e) = p .in-rule in
       record {
@@ -48,13 +51,16 @@ module _ (r : Request) (good : Formed r) where
         covered-fit = p .covered-fit;
       }
 
-  pub to-unlimited : (ms : List ℕ) → PlanOf (unlimited r) ms → UnlimitedPlanOf r ms
+  to-unlimited : (ms : List ℕ) → PlanOf (unlimited r) ms → UnlimitedPlanOf r ms
   to-unlimited ms p = record { in-rule = p .in-rule; covered-fit = p .covered-fit }
 
-  pub least-unlimited : {v : ℕ} → LeastOver (PlanOf (unlimited r)) windows v → LeastUnlimited r v
-  least-unlimited l =
-      let (ms, p, e) = l .met in
-      record { met = (ms, to-unlimited ms p, e); least = λ ms p. l .least ms (from-unlimited ms p) }
+  least-unlimited : {v : ℕ} → LeastOver (PlanOf (unlimited r)) windows v → LeastUnlimited r v
+  least-unlimited = same-least to-unlimited from-unlimited
+
+  pub some-least : (ms : List ℕ) → UnlimitedPlanOf r ms → (v : ℕ) × LeastUnlimited r v
+  some-least ms p =
+      let (v, l) = least-windows (unlimited r) (formed .1 unlimited-formed) ms (from-unlimited ms p) in
+      (v, least-unlimited l)
 
 module _ (r : Request) (good : Formed r) (i : ℕ) (slot : Open r i) where
   abbrev k : ℤ
@@ -77,12 +83,10 @@ module _ (r : Request) (good : Formed r) (i : ℕ) (slot : Open r i) where
       ∙ paired-set (r .lowest) (r .highest) i (sucℤ k) hi
 
   under-class : classOf k (range lo k) ≡ under-only
-  unfolding classOf
-  under-class = rw (le→under (slot .low), le→under (≤ℤ-refl k))
+  under-class = class-under k _ (le→under (slot .low)) (le→under (≤ℤ-refl k))
 
   over-class : classOf k (range (sucℤ k) hi) ≡ over-only
-  unfolding classOf
-  over-class = rw (lt→over (le→lt-suc (≤ℤ-refl k)))
+  over-class = class-over k _ (lt→over (le→lt-suc (≤ℤ-refl k)))
 
   under-formed : Formed (settledUnder r i)
   under-formed =
@@ -136,10 +140,11 @@ module _ (r : Request) (good : Formed r) (i : ℕ) (slot : Open r i) where
     settles =
         record {
           plan = λ ms p. let (ms′, p′, few) = step ms p in (ms′, p′);
-          count = λ v w a b.
+          count = λ v a.
               let (ms, p, e) = a .met in
               let (ms′, p′, few) = step ms p in
-              omega (arith, e, few, b .least ms′ p′);
+              let (w, b) = some-least q q-formed ms′ p′ in
+              (w, b, omega (arith, e, few, b .least ms′ p′));
         }
 
     settles-answer : (before after : Outcome) → Keeps (unlimited r) before → Keeps (unlimited q) after → SettlesAnswer before after
@@ -179,5 +184,8 @@ counting r good o keeps =
       number = λ w c e.
           let a = planned-so (unlimited r) o keeps w c e .windows in
           subst (LeastUnlimited r) (omega (arith, a .minimum)) (least-unlimited r good (a .least));
-      none = λ e ms p. none-so (unlimited r) o keeps e ms (from-unlimited r good ms p);
+      none = (
+        (λ e ms p. none-so (unlimited r) o keeps e ms (from-unlimited r good ms p)),
+        λ n. says-none (unlimited r) o keeps (formed .1 (unlimited-formed r good)) (λ ms p. n ms (to-unlimited r good ms p)),
+      );
     }

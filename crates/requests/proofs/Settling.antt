@@ -6,29 +6,17 @@ use mathlib.Core.Bool.{Bool, true}
 use mathlib.Core.List.{List, [], _∷_}
 use mathlib.Core.Path.{_≡_, refl}
 use lib.ListN.{length, set, length-set}
+use Rattle.rule.proofs.Classes.{opens-too, uncovers-too}
 use Rattle.rule.proofs.Onward.{as-long}
-use Rattle.rule.proofs.Plan.{State, out, on, done, skip, opens, close, more, bridges, legal→plan, plan→legal}
+use Rattle.rule.proofs.Plan.{State, out, on, PlanBy, done, skip, opens, close, more, bridges, legal→plan, plan→legal}
 use Rattle.rule.proofs.Tally.{covered-le}
-use Rattle.rule.specs.Ranges.{Class, under-only, over-only, either, allows}
+use Rattle.rule.specs.Ranges.{Class, under-only, over-only, allows}
 use Rattle.rule.specs.Rule.{goesWith, count, windows, covered}
-use Rattle.requests.proofs.Exact.{Marks, Found, Fits}
-
--- a slot that may be over may open a window, and one that may be a bridge may be uncovered
-opens-too : (c : Class) → allows c 2 ≡ true → allows c 1 ≡ true
-unfolding allows goesWith
-opens-too under-only e = e
-opens-too over-only e = refl
-opens-too either e = refl
-
-uncovers-too : (c : Class) → allows c 3 ≡ true → allows c 0 ≡ true
-unfolding allows goesWith
-uncovers-too under-only e = refl
-uncovers-too over-only e = e
-uncovers-too either e = refl
+use Rattle.requests.proofs.Exact.{Found, Fits}
 
 module _ (room h : ℕ) where
   roomier : {c : Bool} {r b r′ b′ : ℕ} {cs : List Class} {ms : List ℕ} →
-      Marks room h (on c r b) cs ms → r ≤ r′ → b ≤ b′ → Marks room h (on c r′ b′) cs ms
+      PlanBy allows room h (on c r b) cs ms → r ≤ r′ → b ≤ b′ → PlanBy allows room h (on c r′ b′) cs ms
   roomier (close p) e f = close p
   roomier {r′ = zero} (more m p) e f = absurd (omega arith)
   roomier {r′ = suc r′} (more m p) e f = more m (roomier p (le-of-suc-le-suc e) f)
@@ -37,13 +25,13 @@ module _ (room h : ℕ) where
   roomier {r′ = suc r′} {b′ = suc b′} (bridges m p) e f = bridges m (roomier p (le-of-suc-le-suc e) (le-of-suc-le-suc f))
 
   may-close : {c : Bool} {r b : ℕ} {cs : List Class} {ms : List ℕ} →
-      Marks room h (on c r b) cs ms → Marks room h (on true r b) cs ms
+      PlanBy allows room h (on c r b) cs ms → PlanBy allows room h (on true r b) cs ms
   may-close (close p) = close p
   may-close (more m p) = more m p
   may-close (bridges m p) = bridges m p
 
   -- a window under way is put off until its next over slot
-  put-off : {c : Bool} {r b : ℕ} {cs : List Class} {ms : List ℕ} → Marks room h (on c r b) cs ms → r ≤ room → b ≤ h →
+  put-off : {c : Bool} {r b : ℕ} {cs : List Class} {ms : List ℕ} → PlanBy allows room h (on c r b) cs ms → r ≤ room → b ≤ h →
       Found room h (out 0) cs (suc (windows ms)) (covered ms)
   unfolding windows covered count
   put-off (close p) e f = record { marks = _; plan = p; few = omega arith; short = le-refl _ }
@@ -68,14 +56,14 @@ module _ (room h : ℕ) where
   unfolding windows covered count
   bridge-before {c = c} w n n′ e m t = by (t .plan) (t .few) (t .short)
     where
-      by : {r b : ℕ} {cs : List Class} {ms : List ℕ} → Marks room h (on true r b) cs ms → windows ms ≤ w → covered ms ≤ n →
+      by : {r b : ℕ} {cs : List Class} {ms : List ℕ} → PlanBy allows room h (on true r b) cs ms → windows ms ≤ w → covered ms ≤ n →
           Found room h (on true (suc r) (suc b)) (c ∷ cs) w n′
       by (close p) f s = record { marks = 0 ∷ _; plan = close (skip (uncovers-too c m) p); few = f; short = omega arith }
       by (more l p) f s = record { marks = 3 ∷ _; plan = bridges m (more l p); few = f; short = omega arith }
       by (bridges l p) f s = record { marks = 3 ∷ _; plan = bridges m (bridges l p); few = f; short = omega arith }
 
   -- the first slot, under: it is uncovered, and its window is cut there
-  under : {st : State} {x : Class} {cs : List Class} {ms : List ℕ} → Marks room h st (x ∷ cs) ms → Room st →
+  under : {st : State} {x : Class} {cs : List Class} {ms : List ℕ} → PlanBy allows room h st (x ∷ cs) ms → Room st →
       Found room h (relaxed st) (under-only ∷ cs) (suc (windows ms)) (covered ms + 0)
   unfolding allows goesWith windows covered count
   under (skip m p) q = record { marks = _; plan = skip refl p; few = omega arith; short = omega arith }
@@ -91,7 +79,7 @@ module _ (room h : ℕ) where
   under (bridges m p) q = record { marks = _; plan = bridges refl p; few = omega arith; short = omega arith }
 
   -- the first slot, over: a mark 0 becomes 1, and a mark 3 becomes 2
-  over : {st : State} {x : Class} {cs : List Class} {ms : List ℕ} → Marks room h st (x ∷ cs) ms → Room st →
+  over : {st : State} {x : Class} {cs : List Class} {ms : List ℕ} → PlanBy allows room h st (x ∷ cs) ms → Room st →
       Found room h (relaxed st) (over-only ∷ cs) (suc (windows ms)) (covered ms + 1)
   unfolding allows goesWith windows covered count
   over (skip m p) outside = record { marks = 1 ∷ _; plan = opens refl (close p); few = le-refl _; short = omega arith }
@@ -107,10 +95,10 @@ module _ (room h : ℕ) where
   -- any slot: it gets class c, and up to d more slots are covered
   module _ (c : Class) (d : ℕ) where
     abbrev Here : Type 0
-    Here = (st : State) (x : Class) (cs : List Class) (ms : List ℕ) → Marks room h st (x ∷ cs) ms → Room st →
+    Here = (st : State) (x : Class) (cs : List Class) (ms : List ℕ) → PlanBy allows room h st (x ∷ cs) ms → Room st →
         Found room h (relaxed st) (c ∷ cs) (suc (windows ms)) (covered ms + d)
 
-    settle : Here → {st : State} {cs : List Class} {ms : List ℕ} (i : ℕ) → Marks room h st cs ms → Room st →
+    settle : Here → {st : State} {cs : List Class} {ms : List ℕ} (i : ℕ) → PlanBy allows room h st cs ms → Room st →
         Found room h (relaxed st) (set cs i c) (suc (windows ms)) (covered ms + d)
     unfolding windows covered count
     settle here i done q = record { marks = []; plan = done; few = omega arith; short = omega arith }
@@ -134,7 +122,7 @@ module _ (room h : ℕ) where
         bridge-before _ (covered ms + d) _ (omega arith) m (settle here i p (inside (le-of-suc-le e) (le-of-suc-le f)))
 
   module _ (i : ℕ) {cs : List Class} {w c : ℕ} {ms : List ℕ} (f : Fits room h cs w c ms) where
-    plan : Marks room h (out 0) cs ms
+    plan : PlanBy allows room h (out 0) cs ms
     plan = legal→plan allows room h cs ms (f .in-rule)
 
     pub settled-under : (ms′ : List ℕ) × Fits room h (set cs i under-only) (suc (windows ms)) c ms′

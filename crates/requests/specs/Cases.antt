@@ -18,24 +18,24 @@ infix 50 _‥_
 abbrev pub _‥_ : (least most : ℕ) → CountRange
 least ‥ most = record { least = least; most = most }
 
-abbrev pub settings : (k : ℤ) (len h : ℕ) (windows covered : CountRange) → Settings
+abbrev settings : (k : ℤ) (len h : ℕ) (windows covered : CountRange) → Settings
 settings k len h windows covered = record { k = k; len = len; h = h; windows = windows; covered = covered }
 
 -- k = 0 and h = 0
-abbrev pub asked : (len : ℕ) (windows covered : CountRange) → Settings
+abbrev asked : (len : ℕ) (windows covered : CountRange) → Settings
 asked len windows covered = settings (pos 0) len 0 windows covered
 
 abbrev pub loads : List ℕ → List ℤ
 loads = map pos
 
 -- what the mark slice holds before
-abbrev pub before : List ℤ → List ℕ
+abbrev before : List ℤ → List ℕ
 before lowest = replicate (length lowest) 9
 
-abbrev pub request : Settings → (lowest highest : List ℤ) → Request
+abbrev request : Settings → (lowest highest : List ℤ) → Request
 request s lowest highest = record { settings = s; lowest = lowest; highest = highest; marks = before lowest }
 
-abbrev pub noPlan : Settings → (lowest highest : List ℤ) → Case
+abbrev noPlan : Settings → (lowest highest : List ℤ) → Case
 noPlan s lowest highest =
     record {
       request = request s lowest highest;
@@ -43,7 +43,7 @@ noPlan s lowest highest =
     }
 
 -- planned with both count ranges, the narrowed ranges and a plan
-abbrev pub cut : Settings → (lowest highest : List ℤ) → (windows covered : CountRange) → (lowest′ highest′ : List ℤ) →
+abbrev cut : Settings → (lowest highest : List ℤ) → (windows covered : CountRange) → (lowest′ highest′ : List ℤ) →
     (marks : List ℕ) → Case
 cut s lowest highest windows covered lowest′ highest′ marks =
     record {
@@ -52,7 +52,7 @@ cut s lowest highest windows covered lowest′ highest′ marks =
     }
 
 -- planned, and nothing is cut
-abbrev pub uncut : Settings → (lowest highest : List ℤ) → (windows covered : CountRange) → (marks : List ℕ) → Case
+abbrev uncut : Settings → (lowest highest : List ℤ) → (windows covered : CountRange) → (marks : List ℕ) → Case
 uncut s lowest highest windows covered marks = cut s lowest highest windows covered lowest highest marks
 
 -- the ranges of A to C, of D and E, and of F and G

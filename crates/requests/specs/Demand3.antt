@@ -2,6 +2,7 @@
 -- in proofs/Demand3.antt.
 use Prim.Native.Nat.{ℕ, suc, _≤_, _<_}
 use mathlib.Core.List.{List}
+use mathlib.Core.Logic.{_↔_}
 use mathlib.Core.Path.{_≡_}
 use lib.IntN.{ℤ}
 use lib.Signed.{_≤ℤ_}
@@ -27,12 +28,13 @@ pub record Looser (l t : Request) : Type 0 where
   pub windows : Wider (l .settings .windows) (t .settings .windows)
   pub covered : Wider (l .settings .covered) (t .settings .covered)
 
--- Each plan of t is a plan of l, each load left to t is left to l at the same slot, and neither least count of l is higher.
+-- Each plan of t is a plan of l, each load left to t is left to l at the same slot, and where t has a least count, l has one
+-- that is no higher.
 pub record Loosens (t l : Request) : Type 0 where
   pub plans : (ms : List ℕ) → PlanOf t ms → PlanOf l ms
   pub loads : (i : ℕ) (x : ℤ) → LeftAt t i x → LeftAt l i x
-  pub windows : (v w : ℕ) → LeastWindows t v → LeastWindows l w → w ≤ v
-  pub covered : (v w : ℕ) → LeastCovered t v → LeastCovered l w → w ≤ v
+  pub windows : (v : ℕ) → LeastWindows t v → (w : ℕ) × LeastWindows l w × (w ≤ v)
+  pub covered : (v : ℕ) → LeastCovered t v → (w : ℕ) × LeastCovered l w × (w ≤ v)
 
 -- The same of what is handed back: if t gets "planned", so does l, each load in a narrowed range of the first is in that slot's
 -- narrowed range of the second, and neither minimum of the second is higher.
@@ -51,7 +53,7 @@ LeastUnlimited r = LeastOver (UnlimitedPlanOf r) windows
 -- One slot of r is settled: if a plan exists, one exists still, and the least window count is at most one higher.
 pub record Settles (r settled : Request) : Type 0 where
   pub plan : (ms : List ℕ) → UnlimitedPlanOf r ms → (ms′ : List ℕ) × UnlimitedPlanOf settled ms′
-  pub count : (v w : ℕ) → LeastUnlimited r v → LeastUnlimited settled w → w ≤ suc v
+  pub count : (v : ℕ) → LeastUnlimited r v → (w : ℕ) × LeastUnlimited settled w × (w ≤ suc v)
 
 -- r with the window range 0 to n
 abbrev pub unlimited : Request → Request
@@ -69,10 +71,10 @@ unlimited r =
       marks = r .marks;
     }
 
--- Given the window range 0 to n, the window minimum handed back is that least window count, or "no plan" if there is none.
+-- Given the window range 0 to n, the window minimum handed back is that least window count, and "no plan" is said if there is none.
 pub record Counts (r : Request) (o : Outcome) : Type 0 where
   pub number : (w c : CountRange) → o .answer ≡ planned w c → LeastUnlimited r (w .least)
-  pub none : o .answer ≡ no-plan → (ms : List ℕ) → UnlimitedPlanOf r ms → ⊥
+  pub none : (o .answer ≡ no-plan) ↔ ((ms : List ℕ) → UnlimitedPlanOf r ms → ⊥)
 
 -- The rule of this answer: settled stays "planned", with a window minimum at most one higher.
 pub record SettlesAnswer (before after : Outcome) : Type 0 where

@@ -108,7 +108,7 @@ settledUnder r i =
     record { settings = r .settings; lowest = r .lowest; highest = set (r .highest) i (r .settings .k); marks = r .marks }
 
 -- settling it over makes its lowest the threshold plus 1, and the covered maximum one more, or n if that is smaller
-abbrev pub oneMore : Settings → (n : ℕ) → Settings
+abbrev oneMore : Settings → (n : ℕ) → Settings
 oneMore s n =
     record {
       k = s .k;

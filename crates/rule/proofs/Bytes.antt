@@ -1,11 +1,10 @@
 -- The five kinds of bytes in a plan, for going by cases, and which mark may follow which, from bounds on the two.
 use Prim.Native.Nat.{ℕ, zero, suc, _≤_}
 use native.Mathlib.Omega.{arith}
-use mathlib.Core.Bool.{true, false, false≢true}
+use mathlib.Core.Bool.{true, false, false≢true, and-false}
 use mathlib.Core.Path.{_≡_, _∙_}
 use borrow.Author.Tests.{le-leb, lt-leb}
 use lib.Dec.{leb·zero}
-use Rattle.facts.proofs.Rules.{and-false}
 use Rattle.rule.specs.Rule.{follows}
 
 pub data Kind : ℕ → Type 0 where

@@ -1,4 +1,6 @@
 pub mod Bytes
+pub mod Classes
+pub mod Leasts
 pub mod Loads
 pub mod Loosening
 pub mod Onward

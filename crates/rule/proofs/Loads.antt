@@ -1,7 +1,6 @@
 -- Over and under as the library's orders of integers, and which side the marks go with.
 use Prim.Native.Nat.{ℕ}
 use mathlib.Core.Bool.{Bool, true, false, true≢false, not}
-use mathlib.Core.Logic.{_⊎_, inl, inr}
 use mathlib.Core.Path.{_≡_, refl, subst, sym, _∙_}
 use lib.Dec.{T}
 use lib.IntN.{ℤ}
@@ -24,14 +23,6 @@ module _ {k x : ℤ} where
 
   pub le→under : x ≤ℤ k → over k x ≡ false
   le→under h = refuted _ (λ e. clashℤ (over→lt e) h)
-
--- a load is over or under
-pub side : (k x : ℤ) → (k <ℤ x) ⊎ (x ≤ℤ k)
-side k x = by (over k x) refl
-  where
-    by : (b : Bool) → over k x ≡ b → (k <ℤ x) ⊎ (x ≤ℤ k)
-    by true e = inl (over→lt e)
-    by false e = inr (under→le e)
 
 -- a load that is not below an over load is over
 pub rise : (k : ℤ) {a x : ℤ} → a ≤ℤ x → over k a ≡ true → over k x ≡ true

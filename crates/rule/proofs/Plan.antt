@@ -76,27 +76,28 @@ module _ {A : Type 0} (goes : A → ℕ → Bool) (room h : ℕ) where
   abbrev Goes : ℕ → A → Type 0
   Goes m x = goes x m ≡ true
 
-  abbrev Marked : State → List A → List ℕ → Type 0
-  Marked st xs ms = Plan Goes 0 room h st xs ms
+  -- marks as the family in which plans are proved
+  abbrev pub PlanBy : State → List A → List ℕ → Type 0
+  PlanBy st xs ms = Plan Goes 0 room h st xs ms
 
   abbrev Stand : Reading → State → Type 0
   Stand at st = Stands (suc room) h at st
 
   module _ {x : A} {xs : List A} {ms : List ℕ} where
     takes-over : {c : Bool} {r g : ℕ} (l : ℕ) → l + r ≡ suc room → l + 1 ≤ suc room → Goes 2 x →
-        ((r : ℕ) → l + 1 + r ≡ suc room → Marked (on true r g) xs ms) → Marked (on c r g) (x ∷ xs) (2 ∷ ms)
+        ((r : ℕ) → l + 1 + r ≡ suc room → PlanBy (on true r g) xs ms) → PlanBy (on c r g) (x ∷ xs) (2 ∷ ms)
     takes-over {r = zero} l e f m p = absurd (omega arith)
     takes-over {r = suc r} l e f m p = more m (p r (omega arith))
 
     takes-bridge : {c : Bool} {r g : ℕ} (l b : ℕ) → l + r ≡ suc room → l + 1 ≤ suc room → b + g ≡ h → b + 1 ≤ h → Goes 3 x →
-        ((r g : ℕ) → l + 1 + r ≡ suc room → b + 1 + g ≡ h → Marked (on false r g) xs ms) → Marked (on c r g) (x ∷ xs) (3 ∷ ms)
+        ((r g : ℕ) → l + 1 + r ≡ suc room → b + 1 + g ≡ h → PlanBy (on false r g) xs ms) → PlanBy (on c r g) (x ∷ xs) (3 ∷ ms)
     takes-bridge {r = zero} l b e f u v m p = absurd (omega arith)
     takes-bridge {r = suc r} {g = zero} l b e f u v m p = absurd (omega arith)
     takes-bridge {r = suc r} {g = suc g} l b e f u v m p = bridges m (p r g (omega arith) (omega arith))
 
     -- one slot more, before what is left at the state where it stands
     before : {m : ℕ} {at : Reading} {st : State} → Kind m → Stand at st → Passes (suc room) h at (goes x m) m →
-        ((st : State) → Stand (advanced at m) st → Marked st xs ms) → Marked st (x ∷ xs) (m ∷ ms)
+        ((st : State) → Stand (advanced at m) st → PlanBy st xs ms) → PlanBy st (x ∷ xs) (m ∷ ms)
     unfolding follows slotsAfter bridgesAfter
     before uncovered (outside l b) p f = skip (p .goes) (f _ (outside (omega arith) (omega arith)))
     before uncovered (inside (over-slot p₁ p₂) l b) p f =
@@ -121,7 +122,7 @@ module _ {A : Type 0} (goes : A → ℕ → Bool) (room h : ℕ) where
     behind m s c f n o =
         join goes (suc room) h _ ms x xs m (stands→fits s) (record { goes = c; follow = sym f; fits = stands→fits n }) (o n)
 
-  to : {at : Reading} {st : State} (xs : List A) (ms : List ℕ) → Stand at st → Onward goes (suc room) h at xs ms → Marked st xs ms
+  to : {at : Reading} {st : State} (xs : List A) (ms : List ℕ) → Stand at st → Onward goes (suc room) h at xs ms → PlanBy st xs ms
   unfolding agrees ordered
   to [] [] (outside l b) o = done
   to [] [] (inside (over-slot p₁ p₂) l b) o = close done
@@ -142,7 +143,7 @@ module _ {A : Type 0} (goes : A → ℕ → Bool) (room h : ℕ) where
         room = clear goes (suc room) h ms f (o .order) (o .room .kept);
       }
 
-  from : {at : Reading} {st : State} {xs : List A} {ms : List ℕ} → Marked st xs ms → Stand at st → Onward goes (suc room) h at xs ms
+  from : {at : Reading} {st : State} {xs : List A} {ms : List ℕ} → PlanBy st xs ms → Stand at st → Onward goes (suc room) h at xs ms
   unfolding slotsAfter bridgesAfter
   from done (outside l b) = ended goes (suc room) h _ (omega arith) refl
   from (skip c q) (outside l b) =
@@ -156,8 +157,8 @@ module _ {A : Type 0} (goes : A → ℕ → Bool) (room h : ℕ) where
   from (bridges c q) (inside p l b) =
       behind 3 (inside p l b) c (on-from p (omega arith) (omega arith)) (inside a-bridge (omega arith) (omega arith)) (λ n. from q n)
 
-  pub legal→plan : (xs : List A) (ms : List ℕ) → legalBy goes (suc room) h xs ms ≡ true → Marked (out 0) xs ms
+  pub legal→plan : (xs : List A) (ms : List ℕ) → legalBy goes (suc room) h xs ms ≡ true → PlanBy (out 0) xs ms
   legal→plan xs ms e = to xs ms (outside (omega arith) (omega arith)) (begin goes (suc room) h xs ms e)
 
-  pub plan→legal : (xs : List A) (ms : List ℕ) → Marked (out 0) xs ms → legalBy goes (suc room) h xs ms ≡ true
+  pub plan→legal : (xs : List A) (ms : List ℕ) → PlanBy (out 0) xs ms → legalBy goes (suc room) h xs ms ≡ true
   plan→legal xs ms p = whole goes (suc room) h xs ms (from p (outside (omega arith) (omega arith)))

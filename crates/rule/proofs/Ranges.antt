@@ -1,17 +1,24 @@
 -- The rule sees nothing of a range but what its slot can be: marks are legal for ranges exactly when they are legal for the
 -- classes of the ranges.
-use Prim.Native.Nat.{ℕ}
+use Prim.Native.Nat.{ℕ, suc}
 use mathlib.Core.Bool.{Bool, true, false, cond, false≢true, _||_}
 use mathlib.Core.List.{List, [], _∷_, map}
 use mathlib.Core.Logic.{_↔_}
-use mathlib.Core.Path.{_≡_, refl}
+use mathlib.Core.Path.{_≡_, refl, ap}
 use lib.IntN.{ℤ}
+use lib.ListN.{length}
 use lib.Signed.{_≤ℤ_, ≤ℤ-refl}
 use Rattle.rule.proofs.Loads.{rise}
 use Rattle.rule.proofs.Onward.{apart, together}
 use Rattle.facts.proofs.Rules.{both, or-true}
 use Rattle.rule.specs.Ranges.{Range, Proper, ChosenIn, LegalFor, under-only, over-only, either, classOf, allows}
 use Rattle.rule.specs.Rule.{over, goesWith, agrees, carries, legalBy}
+
+pub chosen-length : (rs : List Range) (xs : List ℤ) → ChosenIn rs xs → length xs ≡ length rs
+chosen-length [] [] c = refl
+chosen-length [] (x ∷ xs) c = absurd c
+chosen-length (r ∷ rs) [] c = absurd c
+chosen-length (r ∷ rs) (x ∷ xs) (l, u, c) = ap suc (chosen-length rs xs c)
 
 module _ (k : ℤ) (r : Range) (m : ℕ) where
   -- some load in the range carries the mark

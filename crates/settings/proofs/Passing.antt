@@ -1,15 +1,17 @@
 -- What no refusal of lengths and settings leaves, as facts.
-use Prim.Native.Nat.{ℕ, zero, suc, _≤_}
+use Prim.Native.Nat.{ℕ, zero, suc, _+_, _≤_}
 use native.Mathlib.Omega.{arith}
-use mathlib.Core.Bool.{Bool, true, false, not, _||_}
+use mathlib.Core.Bool.{Bool, false, not}
 use mathlib.Core.List.{List, [], _∷_}
 use mathlib.Core.Logic.{_↔_}
-use mathlib.Core.Option.{none, Option·some-ne-none}
-use mathlib.Core.Path.{_≡_, refl}
-use borrow.Author.Tests.{ltb-false, le-ltb, eqb-true, eq-eqb, ne-eqb, eqb-false, not-false}
+use mathlib.Core.Option.{Option, none, some}
+use mathlib.Core.Path.{_≡_, refl, sym}
+use borrow.Author.Tests.{ltb-false, lt-ltb, le-ltb, leb-false, eqb-true, eq-eqb, not-false}
 use lib.Dec.{ltb, eqb}
-use Rattle.facts.proofs.Rules.{neither}
-use Rattle.settings.specs.Refusals.{Row, row, first, limit, wrongSlots, wrongOther, wrongLength, wrongBridges, wrongCounts, refusalBy, refusal}
+use Rattle.facts.proofs.Rules.{neither, sized}
+use Rattle.refusals.proofs.Table.{clear, number-in}
+use Rattle.refusals.specs.Table.{first}
+use Rattle.settings.specs.Refusals.{limit, wrongSlots, wrongOther, wrongLength, wrongBridges, wrongCounts, refusalBy, refusal}
 use Rattle.settings.specs.declared.CountRange.{CountRange}
 use Rattle.settings.specs.declared.Settings.{Settings}
 
@@ -31,27 +33,16 @@ pub beside : {n : ℕ} {ns ms : List ℕ} {s : Settings} → Same n ms → Passi
 beside same p =
     record { slots = p .slots; same = same; length = p .length; bridges = p .bridges; windows = p .windows; covered = p .covered }
 
-one-le : {a : ℕ} → (a ≡ 0 → ⊥) → 1 ≤ a
-one-le {a = zero} f = absurd (f refl)
-one-le {a = suc a} f = omega arith
+-- len is from 1 to n
+pub lengths : (len n : ℕ) → (wrongLength len n ≡ false) ↔ ((1 ≤ len) × (len ≤ n))
+unfolding wrongLength
+lengths len n = sized len n
 
-pub clear : (number : ℕ) (applies : Bool) (rows : List Row) → first (row number applies ∷ rows) ≡ none →
-    (applies ≡ false) × (first rows ≡ none)
-unfolding first
-clear number true rows e = absurd (Option·some-ne-none _ e)
-clear number false rows e = (refl, e)
-
--- a number is not 0, and at most a limit (21 and 23)
-pub sized : (a most : ℕ) → ((eqb a 0 || ltb most a) ≡ false) ↔ ((1 ≤ a) × (a ≤ most))
-sized a most = (to, from)
-  where
-    to : (eqb a 0 || ltb most a) ≡ false → (1 ≤ a) × (a ≤ most)
-    to e =
-        let (some, few) = neither (eqb a 0) (ltb most a) e in
-        (one-le (eqb-false a 0 some), ltb-false most a few)
-
-    from : (1 ≤ a) × (a ≤ most) → (eqb a 0 || ltb most a) ≡ false
-    from (some, few) = rw (ne-eqb a 0 (omega arith), le-ltb most a few)
+-- where a window may have two slots, at least two are left besides its bridges
+pub few-bridges : (len h : ℕ) → wrongBridges h len ≡ false → 2 ≤ len → h + 2 ≤ len
+unfolding wrongBridges
+few-bridges len zero e two = omega arith
+few-bridges len (suc h) e two = omega (arith, leb-false len (suc h + 1) (rw (lt-ltb 0 (suc h) (omega arith)) at e))
 
 same-others : (n : ℕ) (ns : List ℕ) → wrongOther n ns ≡ false → Same n ns
 unfolding wrongOther
@@ -78,7 +69,7 @@ counts range n = (to, from)
     from (low, high) = rw (le-ltb (range .most) (range .least) low, le-ltb n (range .most) high)
 
 to : (n : ℕ) (ns : List ℕ) (s : Settings) → refusal n ns s ≡ none → Passing n ns s
-unfolding refusal refusalBy wrongSlots wrongLength
+unfolding refusal refusalBy wrongSlots
 to n ns s e =
     let (slots, e) = clear _ _ _ e in
     let (same, e) = clear _ _ _ e in
@@ -89,19 +80,19 @@ to n ns s e =
     record {
       slots = sized n limit .0 slots;
       same = same-others n ns same;
-      length = sized (s .len) n .0 length;
+      length = lengths (s .len) n .0 length;
       bridges = bridges;
       windows = counts (s .windows) n .0 windows;
       covered = counts (s .covered) n .0 covered;
     }
 
 from : (n : ℕ) (ns : List ℕ) (s : Settings) → Passing n ns s → refusal n ns s ≡ none
-unfolding refusal refusalBy first wrongSlots wrongLength
+unfolding refusal refusalBy first wrongSlots
 from n ns s p =
     rw (
       sized n limit .1 (p .slots),
       others-same n ns (p .same),
-      sized (s .len) n .1 (p .length),
+      lengths (s .len) n .1 (p .length),
       p .bridges,
       counts (s .windows) n .1 (p .windows),
       counts (s .covered) n .1 (p .covered),
@@ -110,8 +101,23 @@ from n ns s p =
 pub passing : {n : ℕ} {ns : List ℕ} {s : Settings} → (refusal n ns s ≡ none) ↔ Passing n ns s
 passing {n} {ns} {s} = (to n ns s, from n ns s)
 
--- the same, where a test told whether another slice has a different length
+-- what the rows give, where a test told whether another slice has a different length
+pub refusal-by : (n : ℕ) (ns : List ℕ) (s : Settings) {differs : Bool} {o : Option ℕ} → differs ≡ wrongOther n ns →
+    o ≡ refusalBy n differs s → o ≡ refusal n ns s
+unfolding refusal
+refusal-by n ns s is e = rw (← is) e
+
 pub passing-by : {n : ℕ} {ns : List ℕ} {s : Settings} {differs : Bool} → differs ≡ wrongOther n ns → refusalBy n differs s ≡ none →
     Passing n ns s
-unfolding refusal
-passing-by {n} {ns} {s} is e = to n ns s (rw (← is) e)
+passing-by {n} {ns} {s} is e = to n ns s (sym (refusal-by n ns s is (sym e)))
+
+-- the numbers of lengths and settings begin at 21
+pub from-21 : (n : ℕ) (others : List ℕ) (s : Settings) {k : ℕ} → refusal n others s ≡ some k → 21 ≤ k
+unfolding refusal refusalBy
+from-21 n others s e =
+    let low : (k : ℕ) → 21 ≤ 21 + k = λ k. omega arith in
+    number-in (λ k. 21 ≤ k) _ (low 0, (low 1, (low 2, (low 3, (low 4, (low 5, tt)))))) e
+
+-- a count range is its two ends
+pub same-range : (r s : CountRange) → r .least ≡ s .least → r .most ≡ s .most → r ≡ s
+same-range r s e f = λ i. record { least = e i; most = f i }

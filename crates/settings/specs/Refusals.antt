@@ -1,7 +1,7 @@
 -- Which refusal is given (document 01, "Where each refusal is checked"), for the places that the judge, the chooser and
 -- the filter share: lengths (21, 22) and settings (23 to 26).
 use Prim.Native.Nat.{ℕ, _+_}
-use mathlib.Core.Bool.{Bool, false, cond, not, _&&_, _||_}
+use mathlib.Core.Bool.{Bool, false, not, _&&_, _||_}
 use mathlib.Core.List.{List, [], _∷_}
 use mathlib.Core.Option.{Option, none, some}
 use lib.Dec.{leb, ltb, eqb}
@@ -9,17 +9,8 @@ use Rattle.settings.specs.declared.CountRange.{CountRange}
 use Rattle.settings.specs.declared.Settings.{Settings}
 use Rattle.settings.specs.declared.Checked.{Checked}
 use Rattle.settings.specs.declared.Checked.the-variants.{Passed, Refused}
-use Rattle.settings.specs.declared.Refusal.{Refusal}
-use Rattle.settings.specs.declared.Refusal.the-variants.{FirstLength, OtherLength, WindowLength, Bridges, WindowCounts, CoveredCounts}
-
--- a row of the table: a number, and whether it applies
-pub data Row : Type 0 where
-  row : (number : ℕ) (applies : Bool) → Row
-
--- places are met from top to bottom, numbers within a place in rising order; the first that applies is given
-unfoldable pub first : List Row → Option ℕ
-first [] = none
-first (row number applies ∷ rows) = cond applies (some number) (first rows)
+use Rattle.refusals.specs.Numbers.{settingsNumber}
+use Rattle.refusals.specs.Table.{row, first}
 
 -- the most slots of a plan
 abbrev pub limit : ℕ
@@ -62,15 +53,6 @@ refusalBy n differs s =
 unfoldable pub refusal : (n : ℕ) (others : List ℕ) → Settings → Option ℕ
 refusal n others s = refusalBy n (wrongOther n others) s
 
--- document 01's number of each refusal
-abbrev pub number : Refusal → ℕ
-number FirstLength = 21
-number OtherLength = 22
-number WindowLength = 23
-number Bridges = 24
-number WindowCounts = 25
-number CoveredCounts = 26
-
 abbrev pub checked : Checked → Option ℕ
 checked Passed = none
-checked (Refused r) = some (number r)
+checked (Refused r) = some (settingsNumber r)

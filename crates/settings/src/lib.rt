@@ -1,7 +1,8 @@
 // The settings of a request, and the refusals of lengths and settings, 21 to 26: the table is specs/Refusals.antt.
 ghost use mathlib.Core.Path.{_≡_};
-ghost use Rattle.settings.specs.Refusals.{number as Refusals·number, checked, refusalBy};
+ghost use Rattle.settings.specs.Refusals.{checked, refusalBy};
 ghost use Rattle.settings.specs.Refusals.{wrongSlots, wrongLength, wrongBridges, wrongCounts};
+use refusals::SettingsRefusal;
 
 // The most slots of a plan.
 pub const LIMIT: usize = 64;
@@ -22,36 +23,10 @@ pub struct Settings {
     pub covered: CountRange,
 }
 
-// Why lengths or settings are refused: 21 to 26, in this order.
-pub enum Refusal {
-    FirstLength,
-    OtherLength,
-    WindowLength,
-    Bridges,
-    WindowCounts,
-    CoveredCounts,
-}
-
-impl Refusal {
-    // Document 01's number.
-    pub fn number(self) -> u16
-        ensures { λ r. ⌜ r ≡ Refusals·number self ⌝ }
-    {
-        match self {
-            Refusal::FirstLength => 21,
-            Refusal::OtherLength => 22,
-            Refusal::WindowLength => 23,
-            Refusal::Bridges => 24,
-            Refusal::WindowCounts => 25,
-            Refusal::CoveredCounts => 26,
-        }
-    }
-}
-
 // Whether lengths and settings pass, or the first refusal that applies.
 pub enum Checked {
     Passed,
-    Refused(Refusal),
+    Refused(SettingsRefusal),
 }
 
 // Meets the places in their order, for a first slice of n entries; differs says whether another has a different length.
@@ -59,22 +34,22 @@ pub fn check(settings: Settings, n: usize, differs: bool) -> Checked
     ensures { λ r. ⌜ checked r ≡ refusalBy n differs settings ⌝ }
 {
     if wrong_slots(n) {
-        return Checked::Refused(Refusal::FirstLength);
+        return Checked::Refused(SettingsRefusal::FirstLength);
     }
     if differs {
-        return Checked::Refused(Refusal::OtherLength);
+        return Checked::Refused(SettingsRefusal::OtherLength);
     }
     if wrong_length(settings.len, n) {
-        return Checked::Refused(Refusal::WindowLength);
+        return Checked::Refused(SettingsRefusal::WindowLength);
     }
     if wrong_bridges(settings.h, settings.len) {
-        return Checked::Refused(Refusal::Bridges);
+        return Checked::Refused(SettingsRefusal::Bridges);
     }
     if wrong_counts(settings.windows, n) {
-        return Checked::Refused(Refusal::WindowCounts);
+        return Checked::Refused(SettingsRefusal::WindowCounts);
     }
     if wrong_counts(settings.covered, n) {
-        return Checked::Refused(Refusal::CoveredCounts);
+        return Checked::Refused(SettingsRefusal::CoveredCounts);
     }
     Checked::Passed
 }

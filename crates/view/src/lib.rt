@@ -1,4 +1,4 @@
-// A view held over a file's bytes, for look-ups by slot number.
+// The view, as document 01 calls it: held over a file's bytes, for look-ups by slot number.
 ghost use mathlib.Core.Path.{_≡_};
 ghost use Rattle.card.specs.Reading.{shown, looking};
 use card::Found;

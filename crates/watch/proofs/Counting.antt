@@ -10,10 +10,11 @@ use mathlib.Core.Path.{_≡_, refl}
 use lib.Dec.{eqb, eqb·suc-zero}
 use lib.IntN.{ℤ}
 use lib.Signed.{_<ℤ_, _≤ℤ_}
-use Rattle.rule.proofs.Loads.{side, lt→over, le→under, carried-over, carried-under, carry-over, carry-under}
-use Rattle.rule.proofs.Plan.{State, out, on, Plan, done, skip, opens, close, more, bridges, legal→plan, plan→legal}
+use Rattle.facts.proofs.Integers.{side}
+use Rattle.rule.proofs.Loads.{lt→over, le→under, carried-over, carried-under, carry-over, carry-under}
+use Rattle.rule.proofs.Plan.{State, out, on, PlanBy, done, skip, opens, close, more, bridges, legal→plan, plan→legal}
 use Rattle.rule.specs.Rule.{over, goesWith, carries, count, windows}
-use Rattle.watch.proofs.Reaching.{settled}
+use Rattle.watch.proofs.Reaching.{accepted-numbers}
 use Rattle.watch.specs.Promise.{Least, CaseL}
 use Rattle.watch.specs.States.{begun, afterOver, afterUnder, after, led}
 use Rattle.watch.specs.declared.Watch.{Watch}
@@ -25,10 +26,6 @@ left (suc r) zero = 0
 left (suc r) (suc b) = r
 
 module _ (k : ℤ) (room h : ℕ) where
-  -- marks for loads, as the family in which plans are proved
-  abbrev Marks : State → List ℤ → List ℕ → Type 0
-  Marks = Plan (λ m x. carries k x m ≡ true) 0 room h
-
   -- a watch that opened n windows, with r slots left to the living one, and b bridges if r is not 0
   data Stands : (n r b : ℕ) → Watch → Type 0 where
     stands : {t n r b : ℕ} →
@@ -61,7 +58,7 @@ module _ (k : ℤ) (room h : ℕ) where
 
   -- it opens no more windows than the plan has, apart from d
   floor : {n d : ℕ} {w : Watch} {st : State} {xs : List ℤ} {ms : List ℕ} →
-      Marks st xs ms → (r b : ℕ) → Stands n r b w → Beside r b d st → led w xs .windows ≤ n + windows ms + d
+      PlanBy (carries k) room h st xs ms → (r b : ℕ) → Stands n r b w → Beside r b d st → led w xs .windows ≤ n + windows ms + d
   unfolding led goesWith windows count
   floor done r b stands outside = omega arith
   floor (skip m p) r b s outside = floor p _ _ (under r b s (carried-under 0 refl m)) outside
@@ -87,8 +84,9 @@ module _ (k : ℤ) (room h : ℕ) where
       floor p _ _ (under r b s (carried-under 3 refl m)) (ahead (omega arith) (omega arith))
 
   -- an under slot is a bridge if the window goes on behind it, and uncovered if it closes
-  under-slot : {x : ℤ} {xs : List ℤ} {ms : List ℕ} (r b : ℕ) → x ≤ℤ k → Marks (on true (left r b) (pred b)) xs ms →
-      (m : ℕ) × Marks (on true r b) (x ∷ xs) (m ∷ ms) × (windows (m ∷ ms) ≡ windows ms)
+  under-slot : {x : ℤ} {xs : List ℤ} {ms : List ℕ} (r b : ℕ) → x ≤ℤ k →
+      PlanBy (carries k) room h (on true (left r b) (pred b)) xs ms →
+      (m : ℕ) × PlanBy (carries k) room h (on true r b) (x ∷ xs) (m ∷ ms) × (windows (m ∷ ms) ≡ windows ms)
   unfolding goesWith windows count
   under-slot zero b l (close p) = (0, close (skip (carry-under 0 refl l) p), refl)
   under-slot (suc r) zero l (close p) = (0, close (skip (carry-under 0 refl l) p), refl)
@@ -99,7 +97,7 @@ module _ (k : ℤ) (room h : ℕ) where
   -- a plan from where the watch stands, with as many windows
   record Met (n r b : ℕ) (w : Watch) (xs : List ℤ) : Type 0 where
     marks : List ℕ
-    plan : Marks (on true r b) xs marks
+    plan : PlanBy (carries k) room h (on true r b) xs marks
     same : n + windows marks ≡ led w xs .windows
 
   -- wherever a watch stands, there is one
@@ -126,11 +124,12 @@ module _ (k : ℤ) (room h : ℕ) where
   met (x ∷ xs) n r b w s = one-more (met xs) (side k x) n r b w s
 
   -- a window without a slot left has to close
-  closed : {b : ℕ} {xs : List ℤ} {ms : List ℕ} → Marks (on true 0 b) xs ms → Marks (out 0) xs ms
+  closed : {b : ℕ} {xs : List ℤ} {ms : List ℕ} → PlanBy (carries k) room h (on true 0 b) xs ms →
+      PlanBy (carries k) room h (out 0) xs ms
   closed (close p) = p
 
 pub least : Least
-least k zero h loads e = absurd (omega (arith, settled 0 h e .0))
+least k zero h loads e = absurd (omega (arith, accepted-numbers 0 h e .0))
 least k (suc room) h loads e =
     let f = met k room h loads 0 0 0 _ (fresh k room h) in
     record {

@@ -16,7 +16,7 @@ use Rattle.watch.specs.States.{begun, moved, afterOver, afterUnder, afte
 use Rattle.watch.specs.declared.Watch.{Watch}
 
 -- one load behind others
-pub led-behind : (w : Watch) (loads : List ℤ) (x : ℤ) → led w (loads ++ x ∷ []) ≡ after (led w loads) x
+led-behind : (w : Watch) (loads : List ℤ) (x : ℤ) → led w (loads ++ x ∷ []) ≡ after (led w loads) x
 unfolding led
 led-behind w [] x = refl
 led-behind w (y ∷ ys) x = led-behind (after w y) ys x

@@ -16,7 +16,7 @@ use mir.Val.{SFits}
 use Rattle.rule.proofs.Loads.{le→under}
 use Rattle.rule.specs.Rule.{over}
 use Rattle.watch.proofs.Leading.{taken-is, leads-on, opens, goes-on, ends, bridges, behind-over, behind-under}
-use Rattle.watch.proofs.Reaching.{settled, and-last, threshold}
+use Rattle.watch.proofs.Reaching.{accepted-numbers, and-last, threshold}
 use Rattle.watch.specs.States.{begun, after, led, Leads, Reached}
 use Rattle.watch.specs.Tested.{highest, shortest, Idle, Alive, Sound}
 use Rattle.watch.specs.declared.Watch.{Watch}
@@ -32,7 +32,7 @@ own w (t, n, r, b) = rw (t, n, r, b)
 starts : (w : Watch) → w .taken ≡ 0 → Sound w → Reached w
 unfolding led
 starts w e s =
-    let sized : 1 ≤ shortest (w .len) (w .h) = omega (arith, settled (w .len) (w .h) (s .accepted) .0) in
+    let sized : 1 ≤ shortest (w .len) (w .h) = omega (arith, accepted-numbers (w .len) (w .h) (s .accepted) .0) in
     let some = le-mul-of-pos-right (w .windows) sized in
     let state : begun (w .k) (w .len) (w .h) ≡ w =
     ⊎-elim (λ (i : Idle w). own w (omega arith)) (λ (a : Alive w). absurd (omega arith)) (s .lives) in
@@ -104,7 +104,7 @@ module _ {t : ℕ} {w : Watch} (e : w .taken ≡ suc t) (f : SFits w32 (w .k)) (
         latest all =
             let some = lt-of-mul-lt-mul-right least {m = 0} {n = w .windows} (omega arith) in
             let all = sym (and-last (w .windows) least some) ∙ all ∙ e in
-            let (sized, few, wide) = settled (w .len) (w .h) (s .accepted) in
+            let (sized, few, wide) = accepted-numbers (w .len) (w .h) (s .accepted) in
             ⊎-elim (λ one. opened some (omega arith) (omega arith) (omega arith)) (λ two. ended some all (wide two))
             (eq-or-lt-of-le sized)
 

@@ -7,7 +7,7 @@ use mathlib.Core.List.{List, [], _∷_}
 use mathlib.Core.Logic.{_⊎_, inl, inr, ⊎-elim}
 use mathlib.Core.Option.{none}
 use mathlib.Core.Path.{_≡_, refl, subst}
-use borrow.Author.Tests.{ne-eqb, lt-ltb, leb-false}
+use borrow.Author.Tests.{ne-eqb}
 use lib.Dec.{le→leb}
 use lib.IntN.{ℤ, pos, negsuc}
 use lib.ListN.{length}
@@ -15,26 +15,22 @@ use lib.Signed.{_≤ℤ_, leZ-yes}
 use mir.Syntax.{w32}
 use mir.Val.{SFits}
 use Rattle.rule.proofs.Loads.{rise}
-use Rattle.settings.proofs.Passing.{clear, sized}
-use Rattle.settings.specs.Refusals.{wrongLength, wrongBridges, limit}
+use Rattle.refusals.proofs.Table.{clear}
+use Rattle.settings.proofs.Passing.{lengths, few-bridges}
+use Rattle.settings.specs.Refusals.{limit}
 use Rattle.rule.specs.Rule.{over}
 use Rattle.watch.proofs.Leading.{after-taken, opens, goes-on, ends, bridges, behind-over, behind-under}
 use Rattle.watch.specs.States.{startRefusal, begun, moved, after, led, most, Loads, Reached}
 use Rattle.watch.specs.Tested.{highest, shortest, Idle, Alive, Sound}
 use Rattle.watch.specs.declared.Watch.{Watch}
 
-few-bridges : (len h : ℕ) → wrongBridges h len ≡ false → 2 ≤ len → h + 2 ≤ len
-unfolding wrongBridges
-few-bridges len zero e two = omega arith
-few-bridges len (suc h) e two = omega (arith, leb-false len (suc h + 1) (rw (lt-ltb 0 (suc h) (omega arith)) at e))
-
 -- what an accepted start says of its numbers
-pub settled : (len h : ℕ) → startRefusal len h ≡ none → (1 ≤ len) × (len ≤ limit) × (2 ≤ len → h + 2 ≤ len)
-unfolding startRefusal wrongLength
-settled len h e =
+pub accepted-numbers : (len h : ℕ) → startRefusal len h ≡ none → (1 ≤ len) × (len ≤ limit) × (2 ≤ len → h + 2 ≤ len)
+unfolding startRefusal
+accepted-numbers len h e =
     let (length, e) = clear _ _ _ e in
     let (bridges, e) = clear _ _ _ e in
-    let (some, few) = sized len limit .0 length in
+    let (some, few) = lengths len limit .0 length in
     (some, few, few-bridges len h bridges)
 
 sound-begun : (k : ℤ) (len h : ℕ) → startRefusal len h ≡ none → Sound (begun k len h)
@@ -80,7 +76,7 @@ module _ {w : Watch} (s : Sound w) (few : w .taken < most) where
     -- an over load opens a window where none is alive
     opening : over (w .k) x ≡ true → over (w .k) highest ≡ true → Idle w → Sound (after w x)
     opening e o i =
-        let (some, few, more) = settled (w .len) (w .h) (s .accepted) in
+        let (some, few, more) = accepted-numbers (w .len) (w .h) (s .accepted) in
         let before : w .windows + 1 - 1 ≡ w .windows = omega arith in
         rw (behind-over w x e, opens w (i .slots)) (used (w .windows + 1) (w .len - 1) (w .h) o (rw before (omega (arith, i .each))))
 

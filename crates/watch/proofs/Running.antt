@@ -8,10 +8,11 @@ use mathlib.Core.Path.{_≡_, ap, subst}
 use lib.IntN.{ℤ, pos}
 use lib.ListN.{length, drop, getD, drop-of-length-le}
 use Rattle.facts.proofs.Rules.{uncons}
-use Rattle.watch.specs.Promise.{number, told, Steps, Runs, done, stops, goes-on}
+use Rattle.refusals.specs.Numbers.{stepNumber}
+use Rattle.watch.specs.Promise.{told, Steps, Runs, done, stops, goes-on}
 use Rattle.watch.specs.declared.Watch.{Watch}
 use Rattle.watch.specs.declared.step.Answer.the-variants.{Taken, Refused}
-use Rattle.watch.specs.declared.step.Refusal.{Refusal}
+use Rattle.refusals.specs.declared.StepRefusal.{StepRefusal}
 use Rattle.watch.specs.declared.step.Stepped.{Stepped}
 
 module _ (first : Watch) (loads : List ℤ) where
@@ -36,5 +37,5 @@ module _ (first : Watch) (loads : List ℤ) where
                 left .rest v (suc n) o m (rw (uncons loads i (pos 0) inside) (goes-on r s (ap told e) t)) (omega arith);
           }
 
-      pub stop : {q : Refusal} → r .answer ≡ Refused q → Runs first loads (r .watch) i (some (number q))
+      pub stop : {q : StepRefusal} → r .answer ≡ Refused q → Runs first loads (r .watch) i (some (stepNumber q))
       stop e = left .rest _ 0 _ i (rw (uncons loads i (pos 0) inside) (stops r s (ap told e))) (omega arith)

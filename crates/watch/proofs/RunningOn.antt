@@ -1,8 +1,10 @@
--- From a state that loads lead to, a run takes loads up to the limit: by what each of its steps promises.
+-- What a run comes to, by what each of its steps promises: from a state that loads lead to, it takes loads up to the limit.
 use Prim.Native.Nat.{ℕ, suc, _<_}
 use native.Mathlib.Omega.{arith}
 use mathlib.Core.Bool.{Bool}
 use mathlib.Core.List.{List, [], _∷_, _++_, append-nil}
+use mathlib.Core.Logic.{_⊎_}
+use mathlib.Core.Option.{some}
 use mathlib.Core.Path.{_≡_, refl, ap, sym, _∙_}
 use borrow.Author.Tests.{lt-ltb}
 use lib.Dec.{leb·suc-suc}
@@ -10,8 +12,8 @@ use lib.IntN.{ℤ}
 use lib.ListN.{length, take, length-append}
 use lib.Seq.{append-snoc}
 use Rattle.watch.proofs.Leading.{taken-is}
-use Rattle.watch.proofs.Stepping.{code, differ}
-use Rattle.watch.specs.Promise.{takes, refuses-with, told, Steps, done, stops, goes-on, RunsFrom}
+use Rattle.watch.proofs.Stepping.{code, differ, two-numbers}
+use Rattle.watch.specs.Promise.{takes, refuses-with, told, Steps, Runs, done, stops, goes-on, RunsFrom}
 use Rattle.watch.specs.States.{most, Leads}
 use Rattle.watch.specs.declared.Watch.{Watch}
 use Rattle.watch.specs.declared.step.Stepped.{Stepped}
@@ -48,3 +50,8 @@ runs-on k len h loads _ _ _ _ _ l (goes-on {x = x} {xs} {n = n} r s e run) =
       state = rw (append-snoc loads x (take n xs)) at (q .state);
       refused = rw (leb·suc-suc (suc n) (length xs)) (q .refused);
     }
+
+-- a run is refused by one of its steps
+pub run-numbers : {w v : Watch} {xs : List ℤ} {taken n : ℕ} → Runs w xs v taken (some n) → (n ≡ 32) ⊎ (n ≡ 33)
+run-numbers (stops r s e) = two-numbers (r .answer) _ e
+run-numbers (goes-on r s e run) = run-numbers run

@@ -12,7 +12,7 @@ use Rattle.watch.specs.States.{after, most, Leads, Reached}
 use Rattle.watch.specs.declared.Watch.{Watch}
 use Rattle.watch.specs.declared.step.Answer.{Answer}
 use Rattle.watch.specs.declared.step.Answer.the-variants.{Taken, Refused}
-use Rattle.watch.specs.declared.step.Refusal.the-variants.{Unreached, Full}
+use Rattle.refusals.specs.declared.StepRefusal.the-variants.{Unreached, Full}
 use Rattle.watch.specs.declared.step.Stepped.{Stepped}
 
 -- answers of different codes differ

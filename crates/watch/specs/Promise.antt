@@ -8,7 +8,8 @@ use mathlib.Core.Path.{_≡_}
 use lib.Dec.{ltb}
 use lib.IntN.{ℤ, pos}
 use lib.ListN.{length, take}
-use Rattle.settings.specs.Refusals.{number as judge·number}
+use Rattle.refusals.specs.Answer.{Answer, refuses, gives, answer}
+use Rattle.refusals.specs.Numbers.{settingsNumber, stepNumber}
 use Rattle.rule.specs.Rule.{legal, windows, LeastOver}
 use Rattle.watch.specs.States.{startRefusal, begun, led, most, Leads, Reached}
 use Rattle.watch.specs.declared.run.Ended.{Ended}
@@ -16,41 +17,26 @@ use Rattle.watch.specs.declared.run.Ended.the-variants.{All, Stopped}
 use Rattle.watch.specs.declared.start.Started.{Started}
 use Rattle.watch.specs.declared.start.Started.the-variants.{Watching, Refused as start·Refused}
 use Rattle.watch.specs.declared.Watch.{Watch}
-use Rattle.watch.specs.declared.step.Answer.{Answer}
-use Rattle.watch.specs.declared.step.Answer.the-variants.{Taken, Refused}
-use Rattle.watch.specs.declared.step.Refusal.{Refusal}
-use Rattle.watch.specs.declared.step.Refusal.the-variants.{Unreached, Full}
+use Rattle.watch.specs.declared.step.Answer.{Answer as step·Answer}
+use Rattle.watch.specs.declared.step.Answer.the-variants.{Taken, Refused as step·Refused}
 use Rattle.watch.specs.declared.step.Stepped.{Stepped}
 
 -- a start gives a state, or a refusal's number and no state
-pub data Start : Type 0 where
-  watches : Watch → Start
-  refuses : (number : ℕ) → Start
+abbrev pub started : Started → Answer Watch
+started (Watching w) = gives w
+started (start·Refused r) = refuses (settingsNumber r)
 
-abbrev pub started : Started → Start
-started (Watching w) = watches w
-started (start·Refused r) = refuses (judge·number r)
-
-abbrev pub unless : Option ℕ → Watch → Start
-unless none w = watches w
-unless (some n) w = refuses n
-
-unfoldable pub starting : (k : ℤ) (len h : ℕ) → Start
-starting k len h = unless (startRefusal len h) (begun k len h)
-
--- document 01's number of each refusal of a step
-abbrev pub number : Refusal → ℕ
-number Unreached = 32
-number Full = 33
+unfoldable pub starting : (k : ℤ) (len h : ℕ) → Answer Watch
+starting k len h = answer (startRefusal len h) (begun k len h)
 
 -- a step's answer: the load is taken, with whether it opened a window, or a refusal's number
 pub data Step : Type 0 where
   takes : (opened : Bool) → Step
   refuses-with : (number : ℕ) → Step
 
-abbrev pub told : Answer → Step
+abbrev pub told : step·Answer → Step
 told (Taken opened) = takes opened
-told (Refused r) = refuses-with (number r)
+told (step·Refused r) = refuses-with (stepNumber r)
 
 -- a window was opened between two states
 abbrev pub opened : (before behind : Watch) → Bool
@@ -72,7 +58,7 @@ pub record Steps (w : Watch) (load : ℤ) (r : Stepped) : Type 0 where
 -- the number of the refusal that ended a run, if one did
 abbrev pub refusal : Ended → Option ℕ
 refusal All = none
-refusal (Stopped r) = some (number r)
+refusal (Stopped r) = some (stepNumber r)
 
 -- A run steps load by load, up to the first that is refused: the state then, how many loads were taken, and the refusal.
 pub data Runs : (before : Watch) (loads : List ℤ) (behind : Watch) (taken : ℕ) (refusal : Option ℕ) → Type 0 where

@@ -9,7 +9,8 @@ use lib.IntN.{ℤ}
 use lib.ListN.{length}
 use mir.Syntax.{w32}
 use mir.Val.{SFits}
-use Rattle.settings.specs.Refusals.{row, first, limit, wrongLength, wrongBridges}
+use Rattle.refusals.specs.Table.{row, first}
+use Rattle.settings.specs.Refusals.{limit, wrongLength, wrongBridges}
 use Rattle.rule.specs.Rule.{over}
 use Rattle.watch.specs.declared.Watch.{Watch}
 

@@ -9,7 +9,6 @@ pub use run::Ended;
 pub use run::Ran;
 pub use start::Started;
 pub use step::Answer;
-pub use step::Refusal;
 pub use step::Stepped;
 
 // The settings, how many slots were taken and how many windows opened, and what is left to the living window, the one that the

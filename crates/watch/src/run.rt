@@ -2,12 +2,12 @@
 ghost use Rattle.watch.specs.Promise.{Runs, refusal};
 use crate::Watch;
 use crate::step::Answer;
-use crate::step::Refusal;
+use refusals::StepRefusal;
 
 // Whether all loads were taken, or why the first that was not is refused.
 pub enum Ended {
     All,
-    Stopped(Refusal),
+    Stopped(StepRefusal),
 }
 
 // The state behind the loads that were taken, and how many these are.

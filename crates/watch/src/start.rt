@@ -4,17 +4,17 @@ ghost use Rattle.settings.specs.Refusals.{checked};
 ghost use Rattle.watch.specs.States.{startRefusal};
 ghost use Rattle.watch.specs.Promise.{started, starting};
 use crate::Watch;
+use refusals::SettingsRefusal;
 use settings::Checked;
 use settings::CountRange;
 use settings::LIMIT;
-use settings::Refusal;
 use settings::Settings;
 use settings::check;
 
 // What a start gives.
 pub enum Started {
     Watching(Watch),
-    Refused(Refusal),
+    Refused(SettingsRefusal),
 }
 
 impl Watch {

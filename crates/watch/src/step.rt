@@ -4,33 +4,16 @@ ghost use Prim.Native.Nat.{_<_};
 ghost use Rattle.watch.specs.States.{most, moved as States·moved, afterOver, afterUnder, after as States·after};
 ghost use Rattle.watch.specs.Tested.{Ready};
 ghost use Rattle.watch.specs.declared.step.Answer.the-variants.{Refused};
-ghost use Rattle.watch.specs.Promise.{number as Promise·number, Steps};
+ghost use Rattle.watch.specs.Promise.{Steps};
 use crate::Watch;
 use crate::reached::MOST;
+use refusals::StepRefusal;
 use rule::over;
-
-// Why a step is refused: 32, then 33.
-pub enum Refusal {
-    Unreached,
-    Full,
-}
-
-impl Refusal {
-    // Document 01's number.
-    pub fn number(self) -> u16
-        ensures { λ r. ⌜ r ≡ Promise·number self ⌝ }
-    {
-        match self {
-            Refusal::Unreached => 32,
-            Refusal::Full => 33,
-        }
-    }
-}
 
 // The load is taken, and opened a window or not; or the step is refused.
 pub enum Answer {
     Taken { opened: bool },
-    Refused(Refusal),
+    Refused(StepRefusal),
 }
 
 // The state that replaces the one given, and the answer.
@@ -45,10 +28,10 @@ impl Watch {
         ensures { λ r. ⌜ Steps self load r ⌝ }
     {
         if !self.reached() {
-            return refused(self, Refusal::Unreached);
+            return refused(self, StepRefusal::Unreached);
         }
         if self.taken == MOST {
-            return refused(self, Refusal::Full);
+            return refused(self, StepRefusal::Full);
         }
         let watch = self.after(load);
         Stepped {
@@ -109,7 +92,7 @@ impl Watch {
     }
 }
 
-fn refused(watch: Watch, refusal: Refusal) -> Stepped
+fn refused(watch: Watch, refusal: StepRefusal) -> Stepped
     ensures { λ r. ⌜ (r .watch ≡ watch) × (r .answer ≡ Refused refusal) ⌝ }
 {
     Stepped {

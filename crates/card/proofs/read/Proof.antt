@@ -1,4 +1,4 @@
--- `card::read` meets its contract: the rows are met in their order (`Answering`), and a whole file has all records.
+-- `card::read` meets its contract: the rows are met in their order (`Rows` of `form1`), and a whole file has all records.
 use native.Mathlib.Omega.{arith}
 use mathlib.Core.Option.{none}
 use mathlib.Core.Path.{_≡_, refl, sym, ap, _∙_}
@@ -7,12 +7,14 @@ use borrow.Author.Tests.{lt-ltb, le-ltb}
 use lib.Dec.{ltb}
 use lib.ListN.{length}
 use Rattle.facts.proofs.Rules.{or-true}
-use Rattle.settings.specs.Refusals.{first}
+use Rattle.refusals.specs.Answer.{gives}
+use Rattle.refusals.specs.Table.{first}
 use Rattle.form1.proofs.Opening.{rows-refuse, rows-pass}
 use Rattle.form1.proofs.Passing.{whole}
+use Rattle.form1.proofs.Rows.{refuses-early, refuses-last, gives-asked}
 use Rattle.form1.specs.Form1.{fileRows}
-use Rattle.form1.specs.Opening.{gives, contents}
-use Rattle.card.proofs.Answering.{refuses-early, refuses-last, gives-asked, nothing-altered, records-put}
+use Rattle.form1.specs.Opening.{contents}
+use Rattle.card.proofs.Answering.{nothing-altered, records-put}
 use Rattle.card.specs.Reading.{lentTooShort, reads}
 use Rattle.card.proofs.read.Statement.{statement}
 use Rattle.card.proofs.read.Tie as tie

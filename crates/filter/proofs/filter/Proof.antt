@@ -1,8 +1,8 @@
--- `filter::filter` meets its contract: a refusal is the first that applies, and a request that passes is planned (`Answering`).
+-- `filter::filter` meets its contract: a refusal is the first that applies, and a request that passes is planned (`plan`).
 use mathlib.Core.Path.{sym, ap, _∙_}
 use borrow.Author.Needs.{needs}
 use Rattle.checks.specs.Forming.{told}
-use Rattle.filter.proofs.Answering.{refusal-kept}
+use Rattle.requests.proofs.Keeping.{refusal-kept}
 use Rattle.filter.proofs.filter.Statement.{statement}
 use Rattle.filter.proofs.filter.Tie as tie
 

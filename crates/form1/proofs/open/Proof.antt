@@ -4,7 +4,7 @@ use native.Mathlib.Omega.{arith}
 use mathlib.Core.Option.{Option, none}
 use mathlib.Core.Path.{_≡_, refl, sym, ap, _∙_}
 use borrow.Author.Needs.{needs}
-use Rattle.settings.specs.Refusals.{first}
+use Rattle.refusals.specs.Table.{first}
 use Rattle.form1.proofs.Passing.{whole}
 use Rattle.form1.specs.Form1.{fileRows}
 use Rattle.form1.specs.Opening.{checked, opening}

@@ -6,9 +6,9 @@ use mathlib.Core.Path.{_≡_, sym, ap, _∙_}
 use borrow.Author.Needs.{needs}
 use lib.ListN.{length}
 use lib.Seq.{length-take-le}
+use Rattle.refusals.specs.Answer.{gives}
 use Rattle.card.proofs.Agreeing.{few-slots}
 use Rattle.card.specs.Reading.{told, reading}
-use Rattle.form1.specs.Opening.{gives}
 use Rattle.listing.specs.Text.{said, text}
 use Rattle.printer.proofs.Telling.{refusal-of, of-refusal, of-plan}
 use Rattle.printer.proofs.print_with.Statement.{statement}

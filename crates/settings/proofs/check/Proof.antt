@@ -1,6 +1,6 @@
--- `settings::check` meets its contract: the rows are met in their order (`Rows`).
+-- `settings::check` meets its contract: the rows are met in their order (`Table` of the crate `refusals`).
 use borrow.Author.Needs.{needs}
-use Rattle.settings.proofs.Rows.{rows}
+use Rattle.refusals.proofs.Table.{rows}
 use Rattle.settings.specs.Refusals
 use Rattle.settings.proofs.check.Statement.{statement}
 use Rattle.settings.proofs.check.Tie as tie

@@ -1,6 +1,5 @@
 -- `view::view_of` meets its contract: a walk of its MIR, by hand. The view is made of the slice passed, in the result's
 -- local, and what the slice owns is what the view owns.
--- Assumes nothing.
 use mathlib.Core.Path.{refl}
 use Prim.Native.Nat.{ℕ}
 use mathlib.Core.List.{List, [], _∷_}

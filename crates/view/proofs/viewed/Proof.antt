@@ -1,7 +1,6 @@
 -- `view::viewed` meets its contract: a walk of its MIR, by hand. The view that `view_of` returns is held in a local and
 -- passed to the method `look_up`. All that the proof knows of the two is that each meets its contract.
 -- In a local MIR erases the lifetime of the view's type, so the view is shown to have the type at `erased`.
--- Assumes nothing.
 use mathlib.Core.Path.{_≡_, refl, ap, _∙_}
 use Prim.Native.Nat.{ℕ, _<_, _^_}
 use mathlib.Core.List.{List, [], _∷_}

@@ -1,4 +1,4 @@
--- `card::lookup::look_up` meets its contract: the rows are met in their order (`Answering`), and a whole file has the record.
+-- `card::lookup::look_up` meets its contract: the rows are met in their order (`Rows` of `form1`), and a whole file has the record.
 use Prim.Native.Nat.{_+_, _*_, _≤_}
 use native.Mathlib.Omega.{arith}
 use mathlib.Core.Option.{none}
@@ -9,12 +9,12 @@ use lib.ListN.{length}
 use mir.Facts.{toZ-ofZ}
 use mir.Syntax.{w32}
 use mir.Val.{SFits}
-use Rattle.settings.specs.Refusals.{first}
+use Rattle.refusals.specs.Table.{first}
 use Rattle.form1.proofs.Opening.{rows-refuse, rows-pass, slot-at}
 use Rattle.form1.proofs.Passing.{whole}
+use Rattle.form1.proofs.Rows.{refuses-early, refuses-last, gives-asked}
 use Rattle.form1.specs.Form1.{fileRows}
 use Rattle.form1.specs.Opening.{contents}
-use Rattle.card.proofs.Answering.{refuses-early, refuses-last, gives-asked}
 use Rattle.card.specs.Reading.{noSlot, looking}
 use Rattle.card.proofs.lookup.look_up.Statement.{statement}
 use Rattle.card.proofs.lookup.look_up.Tie as tie

@@ -1,31 +1,42 @@
 -- `filter::classes::class_of` meets its contract: its tests are the definition's.
-use mathlib.Core.Path.{refl}
+use mathlib.Core.Path.{_≡_, sym, _∙_}
+use borrow.Author.Needs.{needs}
 use mir.Facts.{toZ-ofZ}
-use Rattle.rule.specs.Ranges.{classOf}
+use Rattle.rule.proofs.Classes.{class-over, class-either, class-under}
 use Rattle.rule.specs.Rule.{over}
 use Rattle.least.specs.Codes.{coded}
 use Rattle.filter.proofs.classes.class_of.Statement.{statement}
 use Rattle.filter.proofs.classes.class_of.Tie as tie
 
+over-requires : tie.Need-over-requires
+over-requires c κs = search needs
+
+low : (c : tie.After-over) → over (c .before .args .k) (c .before .args .lowest) ≡ c .over .result
+low c = sym (simp (toZ-ofZ, c .before .fits .k, c .before .fits .lowest) at (c .over .ensures))
+
 returns : tie.Need-returns
-unfolding coded classOf over
-returns c = rw (simp (toZ-ofZ, c .before .fits .k, c .before .fits .lowest) at (c .if1 .taken)) refl
+unfolding coded
+returns c = sym (class-over _ _ (low (c .before) ∙ c .if1 .taken))
+
+over-requires-2 : tie.Need-over-requires-2
+over-requires-2 c κs = search needs
+
+high : (c : tie.After-over2) → let s = c .before .before .before in over (s .args .k) (s .args .highest) ≡ c .over2 .result
+high c =
+    let fits = c .before .before .before .fits in
+    sym (simp (toZ-ofZ, fits .k, fits .highest) at (c .over2 .ensures))
 
 returns-2 : tie.Need-returns-2
-unfolding coded classOf over
+unfolding coded
 returns-2 c =
-    let fits = c .before .before .fits in
-    let low = simp (toZ-ofZ, fits .k, fits .lowest) at (c .before .if1 .left) in
-    let high = simp (toZ-ofZ, fits .k, fits .highest) at (c .if2 .taken) in
-    rw (low, high) refl
+    let first = c .before .before in
+    sym (class-either _ _ (low (first .before) ∙ first .if1 .left) (high (c .before) ∙ c .if2 .taken))
 
 returns-3 : tie.Need-returns-3
-unfolding coded classOf over
+unfolding coded
 returns-3 c =
-    let fits = c .before .before .fits in
-    let low = simp (toZ-ofZ, fits .k, fits .lowest) at (c .before .if1 .left) in
-    let high = simp (toZ-ofZ, fits .k, fits .highest) at (c .if2 .left) in
-    rw (low, high) refl
+    let first = c .before .before in
+    sym (class-under _ _ (low (first .before) ∙ first .if1 .left) (high (c .before) ∙ c .if2 .left))
 
 pub class-of-spec : {M : Type 1} → statement M
-class-of-spec = tie.close (tie.spec returns returns-2 returns-3)
+class-of-spec = tie.close (tie.spec over-requires returns over-requires-2 returns-2 returns-3)

@@ -1,6 +1,6 @@
--- `form1::check::check` meets its contract: the rows are met in their order (`Rows` of the crate `settings`).
+-- `form1::check::check` meets its contract: the rows are met in their order (`Table` of the crate `refusals`).
 use borrow.Author.Needs.{needs}
-use Rattle.settings.proofs.Rows.{rows}
+use Rattle.refusals.proofs.Table.{rows}
 use Rattle.form1.proofs.Passing.{long-enough}
 use Rattle.form1.specs.Form1
 use Rattle.form1.proofs.check.check.Statement.{statement}

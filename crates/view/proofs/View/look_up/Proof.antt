@@ -1,6 +1,5 @@
 -- `view::View::look_up`, a method, meets its contract: a walk of its MIR, by hand. The view is taken apart, and the
 -- function of the same name is called on its slice. All that the proof knows of that function is that it meets its contract.
--- Assumes nothing.
 use mathlib.Core.Path.{_≡_, refl}
 use Prim.Native.Nat.{ℕ, _<_, _^_}
 use mathlib.Core.List.{[], _∷_}

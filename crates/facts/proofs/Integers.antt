@@ -2,12 +2,20 @@
 use Prim.Native.Nat.{zero, suc}
 use native.Mathlib.Nat.{le-antisymm, le-of-lt}
 use native.Mathlib.Omega.{arith}
-use mathlib.Core.Logic.{⊎-elim}
-use mathlib.Core.Path.{_≡_, ap}
+use mathlib.Core.Bool.{Bool, true, false, not}
+use mathlib.Core.Logic.{_⊎_, inl, inr, ⊎-elim}
+use mathlib.Core.Path.{_≡_, refl, sym, ap, subst}
 use lib.Dec.{T, leb→le, le→leb, ltb→lt, lt→ltb}
 use lib.IntN.{ℤ, pos, negsuc, sucℤ}
-use lib.Signed.{ltZ, leZ, _<ℤ_, _≤ℤ_, leZ-yes, ltZ-yes, <ℤ-≤ℤ-trans, clashℤ}
-use Rattle.rule.proofs.Loads.{side}
+use lib.Signed.{ltZ, leZ, _<ℤ_, _≤ℤ_, leZ-yes, ltZ-yes, ltZ-no, <ℤ-≤ℤ-trans, clashℤ}
+
+-- x lies above k or not
+pub side : (k x : ℤ) → (k <ℤ x) ⊎ (x ≤ℤ k)
+side k x = by (ltZ k x) refl
+  where
+    by : (b : Bool) → ltZ k x ≡ b → (k <ℤ x) ⊎ (x ≤ℤ k)
+    by true e = inl (ltZ-yes (subst T (sym e) tt))
+    by false e = inr (ltZ-no (subst (λ b. T (not b)) (sym e) tt))
 
 pub ≤ℤ-trans : {a b c : ℤ} → a ≤ℤ b → b ≤ℤ c → a ≤ℤ c
 ≤ℤ-trans {a} {c = c} p q = ⊎-elim (λ l. clashℤ (<ℤ-≤ℤ-trans l p) q) (λ e. e) (side c a)

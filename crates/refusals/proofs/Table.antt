@@ -1,12 +1,10 @@
 -- The first row that applies, met row by row: a test b is a row's, and it held or failed.
-use Prim.Native.Nat.{ℕ, _+_, _≤_}
-use native.Mathlib.Omega.{arith}
+use Prim.Native.Nat.{ℕ}
 use mathlib.Core.Bool.{Bool, true, false}
 use mathlib.Core.List.{List, [], _∷_, _++_}
 use mathlib.Core.Option.{Option, none, some, Option·some-ne-none, Option·some-injective}
 use mathlib.Core.Path.{_≡_, refl, sym, subst}
-use Rattle.settings.specs.Refusals.{Row, row, first, refusalBy, refusal}
-use Rattle.settings.specs.declared.Settings.{Settings}
+use Rattle.refusals.specs.Table.{Row, row, first}
 
 module _ (number : ℕ) (applies : Bool) (rows : List Row) (b : Bool) (is : b ≡ applies) where
   pub given : b ≡ true → some number ≡ first (row number applies ∷ rows)
@@ -20,6 +18,13 @@ module _ (number : ℕ) (applies : Bool) (rows : List Row) (b : Bool) (is : b �
 pub none-left : none ≡ first []
 unfolding first
 none-left = refl
+
+-- where none is given, no row applies
+pub clear : (number : ℕ) (applies : Bool) (rows : List Row) → first (row number applies ∷ rows) ≡ none →
+    (applies ≡ false) × (first rows ≡ none)
+unfolding first
+clear number true rows e = absurd (Option·some-ne-none _ e)
+clear number false rows e = (refl, e)
 
 -- rows behind others: they are met where none of those applies
 pub earlier : (rows behind : List Row) {n : ℕ} → first rows ≡ some n → first (rows ++ behind) ≡ some n
@@ -44,12 +49,5 @@ unfolding first
 number-in P [] each e = absurd (Option·some-ne-none _ (sym e))
 number-in P (row number true ∷ rows) (p, each) e = subst P (Option·some-injective _ _ e) p
 number-in P (row number false ∷ rows) (p, each) e = number-in P rows each e
-
--- the numbers of lengths and settings begin at 21
-pub from-21 : (n : ℕ) (others : List ℕ) (s : Settings) {k : ℕ} → refusal n others s ≡ some k → 21 ≤ k
-unfolding refusal refusalBy
-from-21 n others s e =
-    let low : (k : ℕ) → 21 ≤ 21 + k = λ k. omega arith in
-    number-in (λ k. 21 ≤ k) _ (low 0, (low 1, (low 2, (low 3, (low 4, (low 5, tt)))))) e
 
 pub ruleset rows = (given, passed, none-left)

@@ -1,0 +1,23 @@
+-- Texts of answers beside what document 01 prints, computed in proofs/Cases.antt: case A, the ends of the loads' type, "no plan" and the
+-- refusals.
+use mathlib.Core.List.{[], _∷_}
+use mathlib.Core.Path.{_≡_}
+use lib.IntN.{pos, negsuc}
+use Rattle.requests.specs.Cases.{_‥_, loads}
+use Rattle.requests.specs.Promise.{no-plan, planned}
+use Rattle.requests.specs.Request.{numbered, at-slot}
+use Rattle.listing.specs.Text.{ascii, row, refusal, said, text}
+
+pub record Cases : Type 0 where
+  pub case-a : text
+      (record {
+        answer = planned (1 ‥ 1) (3 ‥ 4);
+        lowest = loads (1 ∷ 1 ∷ 5 ∷ 0 ∷ []);
+        highest = loads (3 ∷ 4 ∷ 5 ∷ 0 ∷ []);
+        marks = 1 ∷ 2 ∷ 2 ∷ 0 ∷ [];
+      })
+      ≡ ascii "windows 1 1\ncovered 3 4\n0 1 3 1\n1 1 4 2\n2 5 5 2\n3 0 0 0\n"
+  pub ends-of-the-loads : row 63 (negsuc 2147483647) (pos 2147483647) 255 ≡ ascii "63 -2147483648 2147483647 255\n"
+  pub of-no-plan : said no-plan [] [] [] ≡ ascii "no plan\n"
+  pub refusal-21 : refusal (numbered 21) ≡ ascii "refused 21\n"
+  pub refusal-31 : refusal (at-slot 31 12) ≡ ascii "refused 31 slot 12\n"

@@ -1,0 +1,3 @@
+pub mod Answer
+pub mod Numbered
+pub mod Table
