@@ -5,9 +5,17 @@
 #include <stdlib.h>
 #include <string.h>
 
-/* How many answers were compared, by code, and how many plans came with a cut part. */
-static unsigned long filter_tally[ICECOPPICE_CROSSED + 1], judge_tally[ICECOPPICE_CROSSED + 1];
+/* Large requests have more slots than the search tries. A length that 21 refuses counts as small. */
+enum size { SMALL, LARGE, SIZES };
+
+/* How many answers were compared, by size and code, and how many plans that were searched came with a cut part. */
+static unsigned long filter_tally[SIZES][ICECOPPICE_CROSSED + 1], judge_tally[SIZES][ICECOPPICE_CROSSED + 1];
 static unsigned long under_cut_tally, over_cut_tally;
+
+static enum size size_of(const struct request *r)
+{
+    return r->lowest_length > SEARCH_SLOTS && r->lowest_length <= ICECOPPICE_SLOTS ? LARGE : SMALL;
+}
 
 struct request blank_request(void)
 {
@@ -70,17 +78,28 @@ static void copy_slices(struct request *to, const struct request *from)
     memcpy(to->marks + MARGIN, from->marks + MARGIN, from->marks_length);
 }
 
-struct icecoppice_answer ask_filter(struct request *r)
+_Noreturn static void fail_filter(const char *what, const struct request *given, const struct request *left,
+                                  const struct icecoppice_answer *a)
 {
-    struct request beside = *r;
+    print_answer("library", a);
+    print_request(left);
+    fail(what, given);
+}
+
+/* Asks the library. It may write into the slices if it says yes, and nowhere else. */
+static struct icecoppice_answer ask_filter(struct request *r)
+{
+    const struct request given = *r;
+    struct request kept = *r;
     const struct settings *s = &r->settings;
     struct icecoppice_answer a = icecoppice_filter(
         s->k, s->len, s->h, s->windows_least, s->windows_most, s->covered_least, s->covered_most,
         r->lowest + MARGIN, r->lowest_length, r->highest + MARGIN, r->highest_length,
         r->marks + MARGIN, r->marks_length);
-    copy_slices(&beside, r);
-    if (!same_buffers(&beside, r))
-        fail("the filter wrote beside a slice", r);
+    if (a.code == ICECOPPICE_YES)
+        copy_slices(&kept, r);
+    if (!same_buffers(&kept, r))
+        fail_filter("the filter wrote beside a slice, or without a yes; asked was:", &given, r, &a);
     return a;
 }
 
@@ -102,29 +121,70 @@ static void tally_cuts(const struct request *given, const struct request *narrow
     over_cut_tally += memcmp(given->highest, narrowed->highest, sizeof given->highest) != 0;
 }
 
+static void hold_to_search(const struct request *given, const struct request *left, const struct icecoppice_answer *a)
+{
+    struct request want = *given;
+    struct icecoppice_answer wanted = search_filter(&given->settings, want.lowest + MARGIN, given->lowest_length,
+                                                    want.highest + MARGIN, given->highest_length, given->marks_length);
+    bool agree = same_answer(a, &wanted);
+    if (agree && a->code == ICECOPPICE_YES) {
+        agree = search_is_plan(&given->settings, want.lowest + MARGIN, want.highest + MARGIN, left->marks + MARGIN,
+                               given->lowest_length);
+        memcpy(want.marks, left->marks, sizeof want.marks); /* any plan will do */
+        tally_cuts(given, &want);
+    }
+    if (!agree || !same_buffers(left, &want)) {
+        print_answer("search", &wanted);
+        print_request(&want);
+        fail_filter("the filter differs, or its marks are no plan; asked was:", given, left, a);
+    }
+}
+
+/* Whether each slot lost its under part, its over part or nothing. A slot without both could not be in a plan. */
+static bool parts_cut(const struct request *given, const struct request *left)
+{
+    int32_t k = given->settings.k;
+    for (size_t j = MARGIN; j < MARGIN + given->lowest_length; j++) {
+        bool open = given->lowest[j] <= k && given->highest[j] > k;
+        if (left->lowest[j] != given->lowest[j] && !(open && left->lowest[j] == k + 1))
+            return false;
+        if (left->highest[j] != given->highest[j] && !(open && left->highest[j] == k))
+            return false;
+    }
+    return true;
+}
+
+/* What an answer other than a refusal has to be, whatever plans there are. */
+static bool is_yes_or_no(const struct request *given, const struct request *left, const struct icecoppice_answer *a)
+{
+    const struct settings *s = &given->settings;
+    if (a->code == ICECOPPICE_NO)
+        return same_answer(a, &(struct icecoppice_answer){.code = ICECOPPICE_NO});
+    return a->code == ICECOPPICE_YES && a->slot == 0 &&
+           a->windows_least >= s->windows_least && a->windows_most == s->windows_most &&
+           a->covered_least >= s->covered_least && a->covered_most == s->covered_most &&
+           a->windows_least <= a->windows_most && a->covered_least <= a->covered_most && parts_cut(given, left) &&
+           search_is_plan(s, left->lowest + MARGIN, left->highest + MARGIN, left->marks + MARGIN, left->lowest_length);
+}
+
+/* Whether the search can work out the whole answer: a refusal, or the plans of a few slots. */
+static bool searchable(const struct request *r)
+{
+    return r->lowest_length <= SEARCH_SLOTS ||
+           search_refusal(&r->settings, r->lowest + MARGIN, r->lowest_length, r->highest + MARGIN, r->highest_length,
+                          r->marks_length).code != 0;
+}
+
 struct icecoppice_answer compare_filter(struct request *r)
 {
     const struct request given = *r;
-    struct request want = *r;
-    struct icecoppice_answer wanted = search_filter(&given.settings, want.lowest + MARGIN, given.lowest_length,
-                                                    want.highest + MARGIN, given.highest_length, given.marks_length);
-    struct icecoppice_answer got = ask_filter(r);
-    bool agree = same_answer(&got, &wanted);
-    if (agree && got.code == ICECOPPICE_YES) {
-        agree = search_is_plan(&given.settings, want.lowest + MARGIN, want.highest + MARGIN, r->marks + MARGIN,
-                               given.lowest_length);
-        memcpy(want.marks, r->marks, sizeof want.marks); /* any plan will do */
-        tally_cuts(&given, &want);
-    }
-    if (!agree || !same_buffers(r, &want)) {
-        print_answer("library", &got);
-        print_request(r);
-        print_answer("search", &wanted);
-        print_request(&want);
-        fail("the filter differs, or its marks are no plan; asked was:", &given);
-    }
-    filter_tally[got.code]++;
-    return got;
+    struct icecoppice_answer a = ask_filter(r);
+    if (searchable(&given))
+        hold_to_search(&given, r, &a);
+    else if (!is_yes_or_no(&given, r, &a))
+        fail_filter("neither a yes with a plan nor a no, and nothing to refuse; asked was:", &given, r, &a);
+    filter_tally[size_of(&given)][a.code]++;
+    return a;
 }
 
 struct icecoppice_verdict compare_judge(const struct request *r)
@@ -137,7 +197,7 @@ struct icecoppice_verdict compare_judge(const struct request *r)
         printf("search: code %u windows %u covered %u\n", wanted.code, wanted.windows, wanted.covered);
         fail("the judge differs; asked was:", r);
     }
-    judge_tally[got.code]++;
+    judge_tally[size_of(r)][got.code]++;
     return got;
 }
 
@@ -150,9 +210,9 @@ void print_kind(const char *kind, unsigned long tally)
     }
 }
 
-static void print_refusals(const char *whose, const unsigned long *tally, unsigned last)
+static void print_refusals(const char *whose, const unsigned long *tally, unsigned first, unsigned last)
 {
-    for (unsigned code = ICECOPPICE_FIRST_LENGTH; code <= last; code++) {
+    for (unsigned code = first; code <= last; code++) {
         if (code > ICECOPPICE_COVERED_COUNTS && code < ICECOPPICE_CROSSED)
             continue;
         char kind[32];
@@ -163,12 +223,18 @@ static void print_refusals(const char *whose, const unsigned long *tally, unsign
 
 void print_tally(void)
 {
-    print_kind("filter: planned", filter_tally[ICECOPPICE_YES]);
+    print_kind("filter: planned", filter_tally[SMALL][ICECOPPICE_YES]);
     print_kind("filter: an under part cut", under_cut_tally);
     print_kind("filter: an over part cut", over_cut_tally);
-    print_kind("filter: no plan", filter_tally[ICECOPPICE_NO]);
-    print_refusals("filter", filter_tally, ICECOPPICE_CROSSED);
-    print_kind("judge: yes", judge_tally[ICECOPPICE_YES]);
-    print_kind("judge: no", judge_tally[ICECOPPICE_NO]);
-    print_refusals("judge", judge_tally, ICECOPPICE_COVERED_COUNTS);
+    print_kind("filter: no plan", filter_tally[SMALL][ICECOPPICE_NO]);
+    print_refusals("filter", filter_tally[SMALL], ICECOPPICE_FIRST_LENGTH, ICECOPPICE_CROSSED);
+    print_kind("filter, large: planned", filter_tally[LARGE][ICECOPPICE_YES]);
+    print_kind("filter, large: no plan", filter_tally[LARGE][ICECOPPICE_NO]);
+    print_refusals("filter, large", filter_tally[LARGE], ICECOPPICE_OTHER_LENGTH, ICECOPPICE_CROSSED);
+    print_kind("judge: yes", judge_tally[SMALL][ICECOPPICE_YES]);
+    print_kind("judge: no", judge_tally[SMALL][ICECOPPICE_NO]);
+    print_refusals("judge", judge_tally[SMALL], ICECOPPICE_FIRST_LENGTH, ICECOPPICE_COVERED_COUNTS);
+    print_kind("judge, large: yes", judge_tally[LARGE][ICECOPPICE_YES]);
+    print_kind("judge, large: no", judge_tally[LARGE][ICECOPPICE_NO]);
+    print_refusals("judge, large", judge_tally[LARGE], ICECOPPICE_OTHER_LENGTH, ICECOPPICE_COVERED_COUNTS);
 }

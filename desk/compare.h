@@ -18,12 +18,13 @@ struct request {
 /* A request without slots or settings, its buffers filled with a pattern. */
 struct request blank_request(void);
 
-/* Asks the library alone. Whatever lies beside the slices has to stay as it is. */
-struct icecoppice_answer ask_filter(struct request *r);
-
 bool same_answer(const struct icecoppice_answer *a, const struct icecoppice_answer *b);
 
-/* Ask both, and hold every field of the answer and every entry of the slices to the search. */
+/*
+ * Ask both, and hold every field of the answer and every entry of the buffers to the search. Where it would have to try
+ * too many plans, the filter has to answer yes or no, to keep both maximums, to cut no more than a part of a range, and
+ * to draw a plan of what it leaves; without a yes it has to leave every buffer as it is.
+ */
 struct icecoppice_answer compare_filter(struct request *r);
 struct icecoppice_verdict compare_judge(const struct request *r);
 

@@ -106,6 +106,19 @@ static uint16_t refusal(const struct settings *s, size_t n, size_t second_length
     return 0;
 }
 
+struct icecoppice_answer search_refusal(const struct settings *s, const int32_t *lowest, size_t lowest_length,
+                                        const int32_t *highest, size_t highest_length, size_t marks_length)
+{
+    uint16_t refused = refusal(s, lowest_length, highest_length, marks_length);
+    if (refused != 0)
+        return (struct icecoppice_answer){.code = refused};
+    for (size_t j = 0; j < lowest_length; j++) {
+        if (lowest[j] > highest[j])
+            return (struct icecoppice_answer){.code = ICECOPPICE_CROSSED, .slot = j};
+    }
+    return (struct icecoppice_answer){.code = 0};
+}
+
 struct icecoppice_verdict search_judge(const struct settings *s, const int32_t *loads, size_t loads_length,
                                        const uint8_t *marks, size_t marks_length)
 {
@@ -200,13 +213,9 @@ struct icecoppice_answer search_filter(const struct settings *s, int32_t *lowest
                                        int32_t *highest, size_t highest_length, size_t marks_length)
 {
     size_t n = lowest_length;
-    uint16_t refused = refusal(s, n, highest_length, marks_length);
-    if (refused != 0)
-        return (struct icecoppice_answer){.code = refused};
-    for (size_t j = 0; j < n; j++) {
-        if (lowest[j] > highest[j])
-            return (struct icecoppice_answer){.code = ICECOPPICE_CROSSED, .slot = j};
-    }
+    struct icecoppice_answer refused = search_refusal(s, lowest, n, highest, highest_length, marks_length);
+    if (refused.code != 0)
+        return refused;
     struct findings f = find(s, lowest, highest, n);
     if (!f.planned)
         return (struct icecoppice_answer){.code = ICECOPPICE_NO};

@@ -1,6 +1,7 @@
 /*
  * A second opinion on the library, by exhaustion: every string of marks is tried, and each sentence of document 01's
- * rule is tested by itself. It shares no code with the library, and is for small requests only.
+ * rule is tested by itself. It shares no code with the library. Only small requests can be tried so; refusals, and
+ * whether given marks are a plan, are told at any size.
  */
 #ifndef SEARCH_H
 #define SEARCH_H
@@ -21,6 +22,10 @@ struct settings {
     uint16_t windows_least, windows_most;
     uint16_t covered_least, covered_most;
 };
+
+/* The refusal that the filter has to give, with its slot, or code 0 if none applies; for any number of slots. */
+struct icecoppice_answer search_refusal(const struct settings *s, const int32_t *lowest, size_t lowest_length,
+                                        const int32_t *highest, size_t highest_length, size_t marks_length);
 
 /* What the filter has to answer; on "planned" the ranges are narrowed in place. Of the marks only the length counts. */
 struct icecoppice_answer search_filter(const struct settings *s, int32_t *lowest, size_t lowest_length,

@@ -1,7 +1,7 @@
 /*
- * Holds the library to the search on the worked cases and on random small requests and plans, whole and damaged; to
- * what follows from the definitions on large requests; and the watch to what watch.h says. The seed is fixed, so every
- * run asks the same.
+ * Holds the library to the search on the worked cases and on random requests and plans, whole and damaged; to what
+ * follows from the definitions on requests too large to search; and the watch to what watch.h says. The seed is fixed,
+ * so every run asks the same.
  */
 #include "cases.h"
 #include "compare.h"
@@ -11,7 +11,8 @@
 #include <stdio.h>
 #include <string.h>
 
-enum { SMALL_SLOTS = 6, SMALL_REQUESTS = 400000, JUDGED_PLANS = 400000, LARGE_REQUESTS = 100 };
+enum { SMALL_SLOTS = 6, SMALL_REQUESTS = 400000, JUDGED_PLANS = 400000 };
+enum { DAMAGED_REQUESTS = 15000, LARGE_REQUESTS = 2000, SETTLED_REQUESTS = 100 };
 
 static int32_t load_for_mark(int32_t k, uint8_t mark)
 {
@@ -45,11 +46,14 @@ static struct request some_request(size_t n)
     return r;
 }
 
-/* Never from 7 to 64, which the search could not work out. */
+static size_t large_length(void)
+{
+    return one_in(4) ? ICECOPPICE_SLOTS : SMALL_SLOTS + 1 + below(ICECOPPICE_SLOTS - SMALL_SLOTS);
+}
+
 static size_t some_length(void)
 {
-    size_t length = below(SMALL_SLOTS + 1 + PLACES - ICECOPPICE_SLOTS);
-    return length <= SMALL_SLOTS ? length : length - SMALL_SLOTS + ICECOPPICE_SLOTS;
+    return below(PLACES + 1);
 }
 
 static uint16_t some_setting(size_t n)
@@ -61,12 +65,12 @@ static uint16_t some_setting(size_t n)
 /* One change that often calls for a refusal. Several on one request try the order of the refusals. */
 static void damage(struct request *r)
 {
-    size_t n = r->lowest_length, slot = MARGIN + below(SMALL_SLOTS);
+    size_t n = r->lowest_length, slot = MARGIN + below(n > 0 ? n : 1);
     struct settings *s = &r->settings;
-    switch (below(10)) {
+    switch (below(12)) {
     case 0: r->lowest_length = some_length(); break;
-    case 1: r->highest_length = one_in(4) ? ICECOPPICE_SLOTS : some_length(); break;
-    case 2: r->marks_length = one_in(4) ? ICECOPPICE_SLOTS : some_length(); break;
+    case 1: r->highest_length = some_length(); break;
+    case 2: r->marks_length = some_length(); break;
     case 3: r->lowest_length = r->highest_length = r->marks_length = some_length(); break;
     case 4: s->len = some_setting(n); break;
     case 5: s->h = one_in(2) ? some_setting(n) : s->len - 1; break;
@@ -74,8 +78,7 @@ static void damage(struct request *r)
     case 7: s->windows_least = one_in(2) ? some_setting(n) : s->windows_most + 1; break;
     case 8: s->covered_most = some_setting(n); break;
     case 9: s->covered_least = one_in(2) ? some_setting(n) : s->covered_most + 1; break;
-    }
-    if (one_in(2)) {
+    default:
         r->lowest[slot] = some_load(s->k);
         r->highest[slot] = some_load(s->k);
     }
@@ -168,11 +171,59 @@ static void compare_some_request(void)
     compare_filter(&r);
 }
 
+static void compare_damaged_request(void)
+{
+    struct request r = request_with_plan(large_length());
+    damage(&r);
+    damage_often(&r);
+    compare_filter(&r);
+}
+
+/* Asks about a request made around a plan. It has to be planned, and no load of the plan may be cut. */
+static struct icecoppice_answer find_plan(struct request *r)
+{
+    const struct request given = *r;
+    size_t n = r->lowest_length;
+    memset(r->marks + MARGIN, 0xff, n); /* the plan itself is not lent */
+    struct icecoppice_answer a = compare_filter(r);
+    if (a.code != ICECOPPICE_YES)
+        fail("no plan where one was drawn", &given);
+    if (!search_is_plan(&r->settings, r->lowest + MARGIN, r->highest + MARGIN, given.marks + MARGIN, n))
+        fail("a load of a plan was cut", &given);
+    return a;
+}
+
+/* Makes one maximum too low for the slots that are over in every choice of loads, if there are any. */
+static bool lower_maximum(struct request *r)
+{
+    struct settings *s = &r->settings;
+    unsigned over = 0;
+    for (size_t j = MARGIN; j < MARGIN + r->lowest_length; j++)
+        over += r->lowest[j] > s->k;
+    if (over == 0)
+        return false;
+    if (one_in(2))
+        s->covered_most = over - 1;
+    else
+        s->windows_most = (over - 1) / s->len;
+    s->windows_least = below(s->windows_most + 1);
+    s->covered_least = below(s->covered_most + 1);
+    return true;
+}
+
+static void check_large_request(void)
+{
+    struct request r = request_with_plan(large_length()), lowered = r;
+    find_plan(&r);
+    if (lower_maximum(&lowered) && compare_filter(&lowered).code != ICECOPPICE_NO)
+        fail("planned, where a maximum is too low for the slots over; left was:", &lowered);
+}
+
 static uint16_t code_with_range(struct request r, size_t slot, int32_t lowest, int32_t highest)
 {
     r.lowest[MARGIN + slot] = lowest;
     r.highest[MARGIN + slot] = highest;
-    return ask_filter(&r).code;
+    return compare_filter(&r).code;
 }
 
 /* Each part of an open slot is left exactly when the request with the slot settled so has a plan. */
@@ -191,7 +242,7 @@ static uint16_t code_with_maximums(struct request r, uint16_t windows_most, uint
 {
     r.settings.windows_most = windows_most;
     r.settings.covered_most = covered_most;
-    return ask_filter(&r).code;
+    return compare_filter(&r).code;
 }
 
 /* With a maximum at the least count there is a plan, and one below there is none. */
@@ -218,20 +269,13 @@ static void check_drawn_plan(const struct request *left, const struct icecoppice
         fail("the judge says no to the filter's plan, or the plan has less than the least", left);
 }
 
-static void check_large_request(void)
+static void check_settled_request(void)
 {
-    size_t n = one_in(4) ? ICECOPPICE_SLOTS : SMALL_SLOTS + 1 + below(ICECOPPICE_SLOTS - SMALL_SLOTS);
-    struct request r = request_with_plan(n);
+    struct request r = request_with_plan(large_length());
     r.settings.windows_least = r.settings.covered_least = 0; /* so that the answer shows the least counts */
     const struct request given = r;
-    memset(r.marks + MARGIN, 0xff, n);
-    struct icecoppice_answer a = ask_filter(&r);
-    if (a.code != ICECOPPICE_YES ||
-        a.windows_most != r.settings.windows_most || a.covered_most != r.settings.covered_most)
-        fail("no plan where one was drawn, or a maximum that moved", &given);
-    if (!search_is_plan(&r.settings, r.lowest + MARGIN, r.highest + MARGIN, given.marks + MARGIN, n))
-        fail("a load of a plan was cut", &given);
-    for (size_t j = 0; j < n; j++)
+    struct icecoppice_answer a = find_plan(&r);
+    for (size_t j = 0; j < r.lowest_length; j++)
         check_parts(&given, &r, j);
     check_least_counts(&given, &a);
     check_drawn_plan(&r, &a);
@@ -247,7 +291,7 @@ static void check_all_over(void)
         r.lowest_length = r.highest_length = r.marks_length = n;
         for (size_t j = MARGIN; j < MARGIN + n; j++)
             r.lowest[j] = r.highest[j] = 1;
-        struct icecoppice_answer a = ask_filter(&r);
+        struct icecoppice_answer a = compare_filter(&r);
         if (a.code != ICECOPPICE_YES || a.windows_least != (n + len - 1) / len || a.covered_least != n)
             fail("64 slots over", &r);
         check_drawn_plan(&r, &a);
@@ -258,27 +302,43 @@ static void check_all_over(void)
 static void check_null(void)
 {
     struct request r = blank_request();
-    int32_t load = 0;
-    uint8_t mark = 0;
+    int32_t load = 5;
+    uint8_t mark = 7;
     if (icecoppice_filter(0, 1, 0, 0, 0, 0, 0, NULL, 0, NULL, 0, NULL, 0).code != ICECOPPICE_FIRST_LENGTH ||
         icecoppice_filter(0, 1, 0, 0, 0, 0, 0, &load, 1, NULL, 0, &mark, 1).code != ICECOPPICE_OTHER_LENGTH ||
         icecoppice_judge(0, 1, 0, 0, 0, 0, 0, NULL, 0, NULL, 0).code != ICECOPPICE_FIRST_LENGTH ||
-        icecoppice_judge(0, 1, 0, 0, 0, 0, 0, &load, 1, NULL, 0).code != ICECOPPICE_OTHER_LENGTH)
+        icecoppice_judge(0, 1, 0, 0, 0, 0, 0, &load, 1, NULL, 0).code != ICECOPPICE_OTHER_LENGTH ||
+        load != 5 || mark != 7)
         fail("NULL with length 0", &r);
+}
+
+static bool holds_only(uint8_t byte, const void *slice, size_t size)
+{
+    const uint8_t *bytes = slice;
+    for (size_t i = 0; i < size; i++) {
+        if (bytes[i] != byte)
+            return false;
+    }
+    return true;
 }
 
 /* Lengths that would pass if they were taken as 16 bits. */
 static void check_long_slices(void)
 {
-    enum { LONG = 65536 + 1 };
+    enum { LONG = 65536 + 1, FILL = 5 };
     static int32_t low[LONG], high[LONG];
     static uint8_t marks[LONG];
     struct request r = blank_request();
+    memset(low, FILL, sizeof low);
+    memset(high, FILL, sizeof high);
+    memset(marks, FILL, sizeof marks);
     if (icecoppice_filter(0, 1, 0, 0, 1, 0, 1, low, LONG, high, LONG, marks, LONG).code != ICECOPPICE_FIRST_LENGTH ||
         icecoppice_filter(0, 1, 0, 0, 1, 0, 1, low, 1, high, LONG, marks, 1).code != ICECOPPICE_OTHER_LENGTH ||
         icecoppice_filter(0, 1, 0, 0, 1, 0, 1, low, 1, high, 1, marks, LONG).code != ICECOPPICE_OTHER_LENGTH ||
         icecoppice_judge(0, 1, 0, 0, 1, 0, 1, low, LONG, marks, LONG).code != ICECOPPICE_FIRST_LENGTH ||
-        icecoppice_judge(0, 1, 0, 0, 1, 0, 1, low, 1, marks, LONG).code != ICECOPPICE_OTHER_LENGTH)
+        icecoppice_judge(0, 1, 0, 0, 1, 0, 1, low, 1, marks, LONG).code != ICECOPPICE_OTHER_LENGTH ||
+        !holds_only(FILL, low, sizeof low) || !holds_only(FILL, high, sizeof high) ||
+        !holds_only(FILL, marks, sizeof marks))
         fail("a length of 65537", &r);
 }
 
@@ -292,13 +352,17 @@ int main(void)
         compare_some_request();
     for (unsigned i = 0; i < JUDGED_PLANS; i++)
         compare_some_plan();
+    for (unsigned i = 0; i < DAMAGED_REQUESTS; i++)
+        compare_damaged_request();
     for (unsigned i = 0; i < LARGE_REQUESTS; i++)
         check_large_request();
+    for (unsigned i = 0; i < SETTLED_REQUESTS; i++)
+        check_settled_request();
     check_watch_starts();
     check_watch_counts();
     check_watch_states();
     print_tally();
-    printf("%-32s %7d\n", "large requests", LARGE_REQUESTS);
+    printf("%-32s %7d\n", "filter, large: each slot settled", SETTLED_REQUESTS);
     print_watch_tally();
     printf("all agree\n");
     return 0;

@@ -82,6 +82,25 @@ struct icecoppice_stepped ask_step(const struct icecoppice_watch *given, int32_t
     return got;
 }
 
+struct watch_model start_model(int32_t k, uint16_t len, uint16_t h)
+{
+    ask_start(k, len, h);
+    return (struct watch_model){.k = k, .len = len, .h = h};
+}
+
+struct icecoppice_watch compare_step(struct watch_model *m, int32_t load)
+{
+    struct icecoppice_watch given = model_state(m);
+    struct icecoppice_stepped wanted = model_step(m, load), got = ask_step(&given, load);
+    if (got.code != wanted.code || got.opened != wanted.opened || !same_watch(&got.watch, &wanted.watch)) {
+        print_model(m);
+        printf("code %u opened %d, wanted code %u opened %d\n", got.code, got.opened, wanted.code, wanted.opened);
+        print_watch("library", &got.watch);
+        fail_watch("the step with the last load differs; wanted was", &wanted.watch);
+    }
+    return got.watch;
+}
+
 void check_step_code(const struct icecoppice_watch *given, int32_t load, uint16_t code, const char *what)
 {
     struct icecoppice_stepped got = ask_step(given, load);

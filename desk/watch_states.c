@@ -1,6 +1,7 @@
 /*
- * Which states a step refuses. All states that up to 12 steps lead to are found by taking these steps; of all states in
- * a box around them exactly the others are refused with 32. The limit of 1,000,000 slots is met by taking as many.
+ * Which states a step refuses. All states that up to 12 loads lead to are those of the model after every such list; of
+ * all states in a box around them exactly the others are refused with 32. The limit of 1,000,000 slots is met by taking
+ * as many.
  */
 #include "random.h"
 #include "watch.h"
@@ -8,7 +9,8 @@
 /* The box: taken up to 12, windows up to 13, room up to 7, spare up to 6, for windows of at most 6 slots. */
 enum { LONGEST = 6, TAKEN = 13, WINDOWS = 14, ROOMS = 8, SPARES = 7, STATES = TAKEN * WINDOWS * ROOMS * SPARES };
 
-enum { LOADS = 4 };
+/* The first two of the loads are one on each side of the threshold, and all that lists need. */
+enum { SIDES = 2, LOADS = 4 };
 
 struct box {
     struct icecoppice_watch start;
@@ -16,11 +18,11 @@ struct box {
     bool reached[STATES];
 };
 
-/* A state's place. One more slot taken is a later place. */
+/* A state's place. */
 static unsigned place_of(const struct icecoppice_watch *w)
 {
     if (w->taken >= TAKEN || w->windows >= WINDOWS || w->room >= ROOMS || w->spare >= SPARES)
-        fail_watch("a step led out of the box", w);
+        fail_watch("loads led out of the box", w);
     return ((w->taken * WINDOWS + w->windows) * ROOMS + w->room) * SPARES + w->spare;
 }
 
@@ -34,27 +36,27 @@ static struct icecoppice_watch state_at(const struct box *b, unsigned place)
     return w;
 }
 
-static void explore(struct box *b)
+/* Marks the states after this list and all that begin with it, and holds the steps to the model. */
+static void explore(struct box *b, struct watch_model *m)
 {
-    b->reached[place_of(&b->start)] = true;
-    for (unsigned place = 0; place < STATES; place++) {
-        struct icecoppice_watch w = state_at(b, place);
-        if (!b->reached[place] || w.taken + 1 == TAKEN)
-            continue;
-        for (unsigned i = 0; i < LOADS; i++) {
-            struct icecoppice_stepped stepped = ask_step(&w, b->loads[i]);
-            if (stepped.code != 0)
-                fail_watch("steps led here, and none leads on", &w);
-            b->reached[place_of(&stepped.watch)] = true;
-        }
+    struct icecoppice_watch w = model_state(m);
+    b->reached[place_of(&w)] = true;
+    if (w.taken + 1 == TAKEN)
+        return;
+    for (unsigned i = 0; i < LOADS; i++) {
+        compare_step(m, b->loads[i]);
+        if (i < SIDES)
+            explore(b, m);
+        m->n--;
     }
 }
 
 static void check_box(int32_t k, uint16_t len, uint16_t h)
 {
     int32_t next = k < INT32_MAX ? k + 1 : k;
-    struct box b = {.start = ask_start(k, len, h).watch, .loads = {INT32_MIN, k, next, INT32_MAX}};
-    explore(&b);
+    struct watch_model m = start_model(k, len, h);
+    struct box b = {.start = model_state(&m), .loads = {k, next, INT32_MIN, INT32_MAX}};
+    explore(&b, &m);
     for (unsigned place = 0; place < STATES; place++) {
         struct icecoppice_watch w = state_at(&b, place);
         for (unsigned i = 0; i < LOADS; i++)
@@ -102,18 +104,20 @@ static void check_far_fields(const struct icecoppice_watch *w)
     check_unreached(last);
 }
 
-/* Every so many slots one is over, from slot 0 on, and 1,000,000 slots need so many windows. */
+/* Every so many slots one is over, from slot 0 on; 1,000,000 slots need so many windows, and leave this to the last. */
 struct pattern {
     uint16_t len, h;
     uint32_t every, windows;
+    uint16_t room, spare;
 };
 
 static const struct pattern patterns[] = {
-    {1, 0, 1, 1000000},
-    {64, 0, 1, 15625},
-    {3, 0, 2, 500000},  /* a window covers one slot */
-    {3, 1, 2, 250000},  /* slots 0 to 2 of every 4 */
-    {64, 62, 63, 7937}, /* slots 0 to 63 of every 126 */
+    {1, 0, 1, 1000000, 0, 0},
+    {64, 0, 1, 15625, 0, 0},
+    {7, 2, 1, 142858, 6, 2},  /* the last slot opens a window */
+    {3, 0, 2, 500000, 0, 0},  /* a window covers one slot */
+    {3, 1, 2, 250000, 0, 0},  /* slots 0 to 2 of every 4 */
+    {64, 62, 63, 7937, 0, 0}, /* slots 0 to 63 of every 126 */
 };
 
 static void check_full(const struct pattern *p)
@@ -127,7 +131,7 @@ static void check_full(const struct pattern *p)
         if (slot == 0)
             check_far_fields(&w);
     }
-    if (w.taken != ICECOPPICE_WATCH_SLOTS || w.windows != p->windows)
+    if (w.taken != ICECOPPICE_WATCH_SLOTS || w.windows != p->windows || w.room != p->room || w.spare != p->spare)
         fail_watch("a full watch with other counts", &w);
     for (unsigned i = 0; i < 300; i++)
         check_step_code(&w, some_load(w.k), ICECOPPICE_FULL, "a full watch");

@@ -71,7 +71,7 @@ abbrev pub shown : Found → Answer Range
 shown (Found·Refused r) = refuses (fileNumber r)
 shown (Record lo hi) = gives (record { lowest = lo; highest = hi })
 
--- it depends on nothing but the bytes and the slot number
+-- what a look-up gives; it depends on nothing but the bytes and the slot number
 unfoldable pub looking : (slot : ℕ) → List ℕ → Answer Range
 looking slot file = answer (refusal (row 19 (noSlot slot file)) file) (rangeOf slot file)
 

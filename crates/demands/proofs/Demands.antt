@@ -8,29 +8,43 @@ use mathlib.Core.Option.{none}
 use mathlib.Core.Path.{_≡_, refl, _∙_}
 use lib.IntN.{ℤ}
 use lib.ListN.{length}
+use Rattle.card.proofs.Agreeing.{agree}
+use Rattle.card.proofs.Told.{told-apart as Reading·told-apart, shown-apart}
 use Rattle.card.proofs.Answering.{reader-refuses, look-up-refuses, refused-unaltered}
 use Rattle.c_api.proofs.Meaning.{means, verdict-means}
 use Rattle.c_api.proofs.WatchMeaning.{start-means, step-means}
 use Rattle.chooser.proofs.Choosing.{chooses}
 use Rattle.judge.proofs.Allowing.{Allowed, allowing, saying, said, refusing}
+use Rattle.judge.proofs.Told.{told-apart as Verdict·told-apart}
+use Rattle.form1.proofs.Drawing.{read-back}
+use Rattle.form1.proofs.Redrawing.{drawn-only}
+use Rattle.listing.proofs.Cases.{cases as texts}
+use Rattle.listing.proofs.Decimals.{decimals}
 use Rattle.rule.proofs.Onward.{as-long}
-use Rattle.settings.proofs.Passing.{passing}
 use Rattle.judge.specs.Judgment.{says, judgment}
 use Rattle.settings.specs.Refusals.{refusal}
 use Rattle.rule.specs.Rule.{carries, windows, covered}
 use Rattle.settings.specs.declared.Settings.{Settings}
 use Rattle.published.proofs.Corners.{recount}
+use Rattle.published.proofs.Examples.{examples}
 use Rattle.published.proofs.Theorems.{theorems}
 use Rattle.published.specs.Published.{Run, size, sum, _⊆_, Obeys, Corners, runs}
 use Rattle.requests.proofs.Alike.{alike}
+use Rattle.requests.proofs.Cases.{all-kept}
 use Rattle.requests.proofs.Demand3.{demand3}
+use Rattle.requests.proofs.Judged.{judged}
+use Rattle.requests.proofs.Keeping.{answered}
+use Rattle.requests.proofs.Least.{least-counts}
 use Rattle.requests.proofs.Outcomes.{unaltered-so, refused-so}
+use Rattle.watch.proofs.Counting.{least, case-l}
+use Rattle.watch.proofs.Origins.{sound→reached}
+use Rattle.watch.proofs.Reaching.{reached→sound}
 use Rattle.watch.proofs.RunningOn.{runs-on, run-numbers}
 use Rattle.watch.proofs.Starting
 use Rattle.watch.proofs.Stepping.{two-numbers}
 use Rattle.demands.proofs.Measure.{delivers, delivers-covered}
 use Rattle.demands.proofs.Watching.{counting}
-use Rattle.demands.specs.Demands.{Demand1, Judges, Demand2, Contracts, Demands}
+use Rattle.demands.specs.Demands.{Demand1, Judges, Demand2, Established, Contracts, Demands}
 use Rattle.filter.proofs.filter as Filter
 use Rattle.judge.proofs.judge as Judge
 use Rattle.chooser.proofs.choose as Choose
@@ -43,6 +57,7 @@ use Rattle.view.proofs.view_of as ViewOf
 use Rattle.view.proofs.View.look_up as ViewLookUp
 use Rattle.view.proofs.viewed as Viewed
 use Rattle.listing.proofs.answered as ListingAnswered
+use Rattle.listing.proofs.buffer as ListingBuffer
 use Rattle.listing.proofs.refused as ListingRefused
 use Rattle.c_api.proofs.icecoppice_filter as CFilter
 use Rattle.c_api.proofs.icecoppice_judge as CJudge
@@ -51,6 +66,7 @@ use Rattle.c_api.proofs.icecoppice_watch_step as CStep
 use Rattle.rule.proofs.over as Over
 use Rattle.settings.proofs.check as Check
 use Rattle.checks.proofs.check_request as CheckRequest
+use Rattle.least.proofs.class_of as ClassOf
 use Rattle.least.proofs.low as Low
 use Rattle.least.proofs.rows as Rows
 use Rattle.form1.proofs.open as Open
@@ -88,7 +104,7 @@ module _ (s : Settings) (X : List ℤ) (D : List Run → Type 0)
   sound ms w c j =
       let (e, a, ew, ec) = said s X ms w c j in
       let allow : Allowed s X ms = allowing .0 a in
-      let (o, number, summed) = theorems .draws (s .k) (s .len) (s .h) X ms (passing .0 e .length .0) (allow .in-rule) in (
+      let (o, number, summed) = theorems .draws (s .k) (s .len) (s .h) X ms (allow .in-rule) in (
         corner (runs 0 ms) .1
             (recount X _ _ _ _ _ _ o (omega (arith, number, allow .windows-fit)) (omega (arith, summed, allow .covered-fit))),
         number ∙ ew,
@@ -99,7 +115,7 @@ module _ (s : Settings) (X : List ℤ) (D : List Run → Type 0)
       (ms : List ℕ) × (judgment s X ms ≡ says true (length S) (sum size S)) × (runs 0 ms ⊆ S) × (S ⊆ runs 0 ms)
   complete e S d =
       let o = corner S .0 d in
-      let (ms, legal, into, onto, number, summed) = theorems .drawn (s .k) (s .len) (s .h) _ _ X S (passing .0 e .length .0) o in
+      let (ms, legal, into, onto, number, summed) = theorems .drawn (s .k) (s .len) (s .h) _ _ X S o in
       let allow : Allowed s X ms = record {
         in-rule = legal;
         windows-fit = omega (arith, number, o .number);
@@ -133,7 +149,29 @@ demand2 =
       judge-weighted = λ s X h. judging s X _ (λ S. rw h (corners s X (s .windows .most) (s .covered .most) S .weighted));
       judge-springy = λ s X most. judging s X _ (λ S. rw most (corners s X (s .windows .most) 0 S .springy));
       judge-focus = λ s X h most. judging s X _ (λ S. rw (h, most) (corners s X (s .windows .most) 0 S .focus));
+      plans = judged;
       watch = counting;
+    }
+
+established : Established
+established =
+    record {
+      kept = answered;
+      starred = all-kept;
+      case-l = case-l;
+      least-counts = least-counts;
+      published = theorems;
+      examples = examples;
+      watch = least;
+      reached = λ w fits. (reached→sound w, sound→reached w fits);
+      read-back = read-back;
+      drawn-only = drawn-only;
+      look-ups = agree;
+      decimals = decimals;
+      texts = texts;
+      verdicts = Verdict·told-apart;
+      readings = Reading·told-apart;
+      records = shown-apart;
     }
 
 contracts : Contracts
@@ -151,6 +189,7 @@ contracts =
       view-look-up = record { meets = ViewLookUp.Met.met; total = λ M 𝓤 H A mem run κs a. (tt, λ g. refl) };
       viewed = record { meets = Viewed.Met.met; total = λ M 𝓤 H A mem run κs a. (tt, λ g. refl) };
       answered = record { meets = ListingAnswered.Met.met; total = λ M 𝓤 H A mem run κs a. (tt, λ g. refl) };
+      buffer = record { meets = ListingBuffer.Met.met; total = λ M 𝓤 H A mem run κs a. (tt, λ g. refl) };
       refused = record { meets = ListingRefused.Met.met; total = λ M 𝓤 H A mem run κs a. (tt, λ g. refl) };
       filter-for-c = record { meets = CFilter.Met.met; total = λ M 𝓤 H A mem run κs a. (tt, λ g. refl) };
       judge-for-c = record { meets = CJudge.Met.met; total = λ M 𝓤 H A mem run κs a. (tt, λ g. refl) };
@@ -159,6 +198,7 @@ contracts =
       over = record { meets = Over.Met.met; total = λ M 𝓤 H A mem run κs a. (tt, λ g. refl) };
       check = record { meets = Check.Met.met; total = λ M 𝓤 H A mem run κs a. (tt, λ g. refl) };
       check-request = record { meets = CheckRequest.Met.met; total = λ M 𝓤 H A mem run κs a. (tt, λ g. refl) };
+      class-of = record { meets = ClassOf.Met.met; total = λ M 𝓤 H A mem run κs a. (tt, λ g. refl) };
       low = record { meets = Low.Met.met; total = λ M 𝓤 H A mem run κs a. (tt, λ g. refl) };
       rows = record { meets = Rows.Met.met; total = λ M 𝓤 H A mem run κs a. (tt, λ g. refl) };
       «open» = record { meets = Open.Met.met; total = λ M 𝓤 H A mem run κs a. (tt, λ g. refl) };
@@ -169,4 +209,4 @@ contracts =
     }
 
 pub demands : Demands
-demands = record { first = demand1; second = demand2; third = demand3; contracts = contracts }
+demands = record { first = demand1; second = demand2; third = demand3; established = established; contracts = contracts }

@@ -19,9 +19,9 @@ use Rattle.published.proofs.Corners.{recount}
 use Rattle.published.proofs.Theorems.{theorems}
 use Rattle.published.specs.Published.{Run, Obeys, runs}
 use Rattle.requests.proofs.Choices.{paired-length}
-use Rattle.requests.proofs.Outcomes.{planned-so, none-so, says-none}
+use Rattle.requests.proofs.Outcomes.{planned-so, none-so, says-none, says-planned}
 use Rattle.requests.proofs.Requests.{formed, chosen-slots}
-use Rattle.requests.specs.Promise.{Outcome, Raised, Drawn, Keeps}
+use Rattle.requests.specs.Promise.{Outcome, Raised, YesFor, Keeps}
 use Rattle.requests.specs.Request.{Request, slots, paired, ranges, WellFormed, PlanOf, LeftAt}
 use Rattle.demands.specs.Demands.{Definition, Satisfied, Occurs, TrueLeast, Delivers, DeliversCovered}
 
@@ -44,18 +44,15 @@ true-least {r} {D} {given = given} into back raised =
     }
 
 -- legal marks draw windows within every maximum that they are within
-pub drawn-by : {k : ℤ} {len h : ℕ} (X : List ℤ) (ms : List ℕ) (yc zc : ℕ) → 1 ≤ len → legal k len h X ms ≡ true →
+pub drawn-by : {k : ℤ} {len h : ℕ} (X : List ℤ) (ms : List ℕ) (yc zc : ℕ) → legal k len h X ms ≡ true →
     windows ms ≤ yc → covered ms ≤ zc → Obeys k len h yc zc X (runs 0 ms)
-drawn-by {k} {len} {h} X ms yc zc one e few short =
-    let (o, number, summed) = theorems .draws k len h X ms one e in
+drawn-by {k} {len} {h} X ms yc zc e few short =
+    let (o, number, summed) = theorems .draws k len h X ms e in
     recount X _ _ _ _ _ _ o (omega (arith, number, few)) (omega (arith, summed, short))
 
 module _ (r : Request) (w : WellFormed r) where
   abbrev s : Settings
   s = r .settings
-
-  one : 1 ≤ s .len
-  one = formed .0 w .pass .length .0
 
   wide : (X : List ℤ) → ChosenIn (ranges r) X → length X ≡ slots r
   wide = chosen-slots r (formed .0 w)
@@ -69,7 +66,7 @@ module _ (r : Request) (w : WellFormed r) where
       ChosenIn (ranges r) X → yc ≤ s .windows .most → zc ≤ s .covered .most → Rule X yc zc S →
       (ms : List ℕ) × PlanOf r ms × (legal (s .k) (s .len) (s .h) X ms ≡ true) × (windows ms ≤ yc) × (covered ms ≤ zc)
   plan-of X yc zc S c most-w most-c o =
-      let (ms, e, into, onto, number, summed) = theorems .drawn (s .k) (s .len) (s .h) yc zc X S one o in
+      let (ms, e, into, onto, number, summed) = theorems .drawn (s .k) (s .len) (s .h) yc zc X S o in
       let few : windows ms ≤ yc = omega (arith, number, o .number) in
       let short : covered ms ≤ zc = omega (arith, summed, o .summed) in
       (ms, record { in-rule = (X, c, e); windows-fit = omega arith; covered-fit = omega arith }, e, few, short)
@@ -82,7 +79,7 @@ module _ (r : Request) (w : WellFormed r) where
     satisfied : (ms : List ℕ) → PlanOf r ms → (yc : ℕ) → windows ms ≤ yc → Satisfied r D yc
     satisfied ms p yc few =
         let (X, c, e) = p .in-rule in
-        (X, c, runs 0 ms, is X (wide X c) yc _ .1 (drawn-by X ms yc _ one e few (p .covered-fit)))
+        (X, c, runs 0 ms, is X (wide X c) yc _ .1 (drawn-by X ms yc _ e few (p .covered-fit)))
 
     planned : (yc : ℕ) → yc ≤ s .windows .most → Satisfied r D yc → (ms : List ℕ) × PlanOf r ms × (windows ms ≤ yc)
     planned yc most (X, c, S, d) =
@@ -98,14 +95,15 @@ module _ (r : Request) (w : WellFormed r) where
         l .occurs,
         runs 0 (l .marks),
         is (l .loads) (wide _ (l .chosen)) _ _ .1
-            (drawn-by (l .loads) (l .marks) _ _ one (l .in-rule) (l .plan .windows-fit) (l .plan .covered-fit)),
+            (drawn-by (l .loads) (l .marks) _ _ (l .in-rule) (l .plan .windows-fit) (l .plan .covered-fit)),
       )),
       (λ (X, c, there, occurs, S, d).
           let (ms, p, e, few, short) = plan-of X _ _ S c (le-refl _) (le-refl _) (is X (wide X c) _ S .0 d) in
           record { loads = X; marks = ms; chosen = c; plan = p; in-rule = e; there = there; occurs = occurs }),
     )
 
-    drawn : (o : Outcome) → length (o .lowest) ≡ slots r → length (o .highest) ≡ slots r → Drawn r o →
+    drawn : (o : Outcome) → length (o .lowest) ≡ slots r → length (o .highest) ≡ slots r →
+        YesFor s (paired (o .lowest) (o .highest)) (o .marks) →
         (X : List ℤ) × ChosenIn (paired (o .lowest) (o .highest)) X × D X (s .windows .most) (runs 0 (o .marks))
     drawn o low high d =
         let (e, a, _, _) = said s (d .loads) (o .marks) _ _ (d .yes) in
@@ -115,7 +113,7 @@ module _ (r : Request) (w : WellFormed r) where
           d .loads,
           d .chosen,
           is (d .loads) as-many _ _ .1
-              (drawn-by (d .loads) (o .marks) _ _ one (allow .in-rule) (allow .windows-fit) (allow .covered-fit)),
+              (drawn-by (d .loads) (o .marks) _ _ (allow .in-rule) (allow .windows-fit) (allow .covered-fit)),
         )
 
     pub delivers : (o : Outcome) → Keeps r o → Delivers r D o
@@ -125,6 +123,7 @@ module _ (r : Request) (w : WellFormed r) where
             (λ e q. let (ms, p, few) = planned _ (le-refl _) q in none-so r o k e ms p),
             (λ none. says-none r o k w (λ ms p. none (satisfied ms p _ (p .windows-fit)))),
           );
+          some = λ q. let (ms, p, few) = planned _ (le-refl _) q in says-planned r o k w ms p;
           windows = λ v c e. true-least
               (λ ms p. (p .windows-fit, satisfied ms p _ (le-refl _))) (λ u (most, q). planned u most q)
               (planned-so r o k v c e .windows);
@@ -138,15 +137,20 @@ module _ (r : Request) (w : WellFormed r) where
   abbrev ByCovered : Definition → Type 0
   ByCovered D = (X : List ℤ) → length X ≡ slots r → (zc : ℕ) (S : List Run) → D X zc S ↔ Rule X (s .windows .most) zc S
 
-  pub delivers-covered : (D : Definition) → ByCovered D → (o : Outcome) → Keeps r o → DeliversCovered r D o
-  delivers-covered D is o k =
-      record {
-        covered = λ v c e. true-least
-            (λ ms p.
-            let (X, c, e) = p .in-rule in
-            (p .covered-fit, (X, c, runs 0 ms, is X (wide X c) _ _ .1 (drawn-by X ms _ _ one e (p .windows-fit) (le-refl _)))))
-            (λ u (most, (X, c, S, d)).
-            let (ms, p, e, few, short) = plan-of X _ u S c (le-refl _) most (is X (wide X c) u S .0 d) in
-            (ms, p, short))
-            (planned-so r o k v c e .covered);
-      }
+  module _ (D : Definition) (is : ByCovered D) where
+    planned-within : (zc : ℕ) → zc ≤ s .covered .most → Satisfied r D zc → (ms : List ℕ) × PlanOf r ms × (covered ms ≤ zc)
+    planned-within zc most (X, c, S, d) =
+        let (ms, p, e, few, short) = plan-of X _ zc S c (le-refl _) most (is X (wide X c) zc S .0 d) in
+        (ms, p, short)
+
+    pub delivers-covered : (o : Outcome) → Keeps r o → DeliversCovered r D o
+    delivers-covered o k =
+        record {
+          some = λ q. let (ms, p, short) = planned-within _ (le-refl _) q in says-planned r o k w ms p;
+          covered = λ v c e. true-least
+              (λ ms p.
+              let (X, c, e) = p .in-rule in
+              (p .covered-fit, (X, c, runs 0 ms, is X (wide X c) _ _ .1 (drawn-by X ms _ _ e (p .windows-fit) (le-refl _)))))
+              (λ u (most, q). planned-within u most q)
+              (planned-so r o k v c e .covered);
+        }

@@ -10,7 +10,6 @@ use Rattle.rule.specs.Rule.{carries, covered}
 use Rattle.published.proofs.Theorems.{theorems}
 use Rattle.published.specs.Published.{Run, SpringyFocus, runs}
 use Rattle.watch.proofs.Counting.{least}
-use Rattle.watch.proofs.Reaching.{accepted-numbers}
 use Rattle.watch.specs.States.{Leads}
 use Rattle.watch.specs.declared.Watch.{Watch}
 use Rattle.demands.proofs.Measure.{drawn-by}
@@ -19,15 +18,14 @@ use Rattle.demands.specs.Demands.{Least}
 pub counting : (k : ℤ) (len h : ℕ) (X : List ℤ) (w : Watch) → Leads k len h X w →
     Least (λ yc. (S : List Run) × SpringyFocus X yc len h k S) (w .windows)
 counting k len h X w l =
-    let one = accepted-numbers len h (l .accepted) .0 in
     let over-marks = least k len h X (l .accepted) in
     let (ms, e, same) = over-marks .met in
     let short : covered ms ≤ length X = omega (arith, covered-le ms, as-long (carries k) len h X ms e) in
     rw (← l .state)
     record {
-      met = (runs 0 ms, theorems .corners X _ _ _ _ 0 _ .springy .1 (drawn-by X ms _ _ one e (omega (arith, same)) short));
+      met = (runs 0 ms, theorems .corners X _ _ _ _ 0 _ .springy .1 (drawn-by X ms _ _ e (omega (arith, same)) short));
       least = λ u (S, d).
           let o = theorems .corners X _ _ _ _ 0 S .springy .0 d in
-          let (ms, e, into, onto, number, summed) = theorems .drawn k len h _ _ X S one o in
+          let (ms, e, into, onto, number, summed) = theorems .drawn k len h _ _ X S o in
           omega (arith, over-marks .least ms e, number, o .number);
     }

@@ -15,24 +15,37 @@ use mathlib.Core.Path.{_≡_}
 use denote.Ref.{RefT}
 use lib.IntN.{ℤ}
 use lib.ListN.{length}
-use Rattle.rule.specs.Ranges.{ChosenIn}
+use mir.Syntax.{w32}
+use mir.Val.{SFits}
+use Rattle.rule.specs.Ranges.{ChosenIn, Class}
 use Rattle.refusals.specs.Answer.{refuses}
 use Rattle.refusals.specs.Table.{row}
 use Rattle.settings.specs.Refusals.{refusal}
 use Rattle.settings.specs.declared.CountRange.{CountRange}
 use Rattle.settings.specs.declared.Settings.{Settings}
-use Rattle.judge.specs.Judgment.{says, refuses as Judgment·refuses, judgment}
+use Rattle.judge.specs.Judgment.{says, refuses as Judgment·refuses, told as Judgment·told, judgment}
+use Rattle.judge.specs.declared.Verdict.{Verdict}
 use Rattle.chooser.specs.Choice.{Chosen, Chooses}
-use Rattle.published.specs.Published.{Run, size, sum, _⊆_, Focus, SpringyFocus, WeightedFocus, WeightedSpringyFocus, runs}
+use Rattle.published.specs.Published.{Run, size, sum, _⊆_, Focus, SpringyFocus, WeightedFocus, WeightedSpringyFocus, runs, Theorems}
+use Rattle.published.specs.Examples.{Examples}
+use Rattle.requests.specs.Cases.{cases, Kept}
 use Rattle.requests.specs.Demand3.{Demand3}
-use Rattle.requests.specs.Promise.{refuses as Promise·refuses, no-plan, planned, Outcome, Held, Unaltered, Keeps, Alike}
-use Rattle.requests.specs.Request.{Request, slots, paired, ranges, at, Refused, refused, WellFormed}
-use Rattle.watch.specs.Promise.{starting, refuses-with, told, Steps, Runs, RunsFrom}
-use Rattle.watch.specs.States.{startRefusal, Leads}
+use Rattle.requests.specs.Promise.{refuses as Promise·refuses, no-plan, planned, Outcome, SaysPlanned, Held, Unaltered}
+use Rattle.requests.specs.Promise.{YesFor, Keeps, Alike}
+use Rattle.requests.specs.Request.{Request, slots, paired, ranges, at, Refused, refused, WellFormed, PlanOf}
+use Rattle.requests.specs.Solution.{LeastCounts}
+use Rattle.watch.specs.Promise.{starting, refuses-with, told, Steps, Runs, RunsFrom, Least as Watch·Least, CaseL}
+use Rattle.watch.specs.States.{startRefusal, Leads, Reached}
+use Rattle.watch.specs.Tested.{Sound}
 use Rattle.watch.specs.declared.Watch.{Watch}
 use Rattle.watch.specs.declared.step.Stepped.{Stepped}
 use Rattle.form1.specs.Form1.{refusal as File·refusal}
-use Rattle.card.specs.Reading.{lentTooShort, reading, noSlot, looking}
+use Rattle.form1.specs.Layout.{ReadBack, DrawnOnly}
+use Rattle.card.specs.Reading.{told as Reading·told, lentTooShort, reading, noSlot, shown, looking, Agree}
+use Rattle.card.specs.declared.Found.{Found}
+use Rattle.card.specs.declared.Reading.{Reading}
+use Rattle.listing.specs.Cases.{Cases as Listing·Cases}
+use Rattle.listing.specs.Text.{Decimal}
 use Rattle.c_api.specs.Numbers.{Answered, Means, VerdictMeans}
 use Rattle.c_api.specs.WatchNumbers.{StartMeans, StepMeans}
 use Rattle.c_api.specs.declared.AnswerNumbers.{AnswerNumbers}
@@ -49,6 +62,7 @@ use Rattle.view.proofs.view_of as ViewOf
 use Rattle.view.proofs.View.look_up as ViewLookUp
 use Rattle.view.proofs.viewed as Viewed
 use Rattle.listing.proofs.answered as ListingAnswered
+use Rattle.listing.proofs.buffer as ListingBuffer
 use Rattle.listing.proofs.refused as ListingRefused
 use Rattle.c_api.proofs.icecoppice_filter as CFilter
 use Rattle.c_api.proofs.icecoppice_judge as CJudge
@@ -57,6 +71,7 @@ use Rattle.c_api.proofs.icecoppice_watch_step as CStep
 use Rattle.rule.proofs.over as Over
 use Rattle.settings.proofs.check as Check
 use Rattle.checks.proofs.check_request as CheckRequest
+use Rattle.least.proofs.class_of as ClassOf
 use Rattle.least.proofs.low as Low
 use Rattle.least.proofs.rows as Rows
 use Rattle.form1.proofs.open as Open
@@ -75,20 +90,22 @@ pub record Demand1 : Type 0 where
   pub decided : (r : Request) (o p : Outcome) → Keeps r o → Keeps r p → Alike o p
   pub unaltered : (r : Request) (o : Outcome) → Keeps r o →
       (o .answer ≡ no-plan → Unaltered r o) × ((f : Refused) → o .answer ≡ Promise·refuses f → Unaltered r o)
-  -- so does the judge
+  -- the judge refuses with the first number that applies, and in no other situation
   pub judge : (s : Settings) (loads : List ℤ) (marks : List ℕ) (n : ℕ) →
       (judgment s loads marks ≡ Judgment·refuses n) ↔ (refusal (length loads) (length marks ∷ []) s ≡ some n)
   -- the chooser hands back one of the two plans, to which the judge says yes; or the empty part, exactly where the judge refuses one
   -- of the two or says no to both
   pub chooser : (s : Settings) (loads : List ℤ) (a b r : RefT (List ℕ)) → Chosen s loads a b r → Chooses s loads a b r
-  -- a watch's start refuses so; a refusal of a step is 32 or 33, each exactly when `Steps` says, and keeps the state
+  -- a watch's start refuses with the first number that applies, and in no other situation; a refusal of a step is 32
+  -- or 33, each exactly when `Steps` says, and keeps the state
   pub start : (k : ℤ) (len h n : ℕ) → (starting k len h ≡ refuses n) ↔ (startRefusal len h ≡ some n)
   pub step : (w : Watch) (load : ℤ) (r : Stepped) → Steps w load r → (n : ℕ) → told (r .answer) ≡ refuses-with n →
       ((n ≡ 32) ⊎ (n ≡ 33)) × (r .watch ≡ w)
   -- a run is refused by one of its steps; from a state that loads lead to, with 33, exactly when the limit leaves loads over
   pub run : (w v : Watch) (loads : List ℤ) (taken n : ℕ) → Runs w loads v taken (some n) → (n ≡ 32) ⊎ (n ≡ 33)
   pub run-on : RunsFrom
-  -- the reader and the look-up refuse so, the reader leaving both slices as they were
+  -- the reader and the look-up refuse with the first number that applies, and in no other situation; the reader then
+  -- leaves both slices as they were
   pub reader : (file : List ℕ) (los his : List ℤ) (n : ℕ) →
       (reading file los his .answer ≡ refuses n) ↔ (File·refusal (row 17 (lentTooShort los his file)) file ≡ some n)
   pub reader-unaltered : (file : List ℕ) (los his : List ℤ) (n : ℕ) → reading file los his .answer ≡ refuses n →
@@ -132,6 +149,8 @@ pub record TrueLeast (r : Request) (D : Definition) (given handed : CountRange) 
 pub record Delivers (r : Request) (D : Definition) (o : Outcome) : Type 0 where
   -- "no plan" is said exactly when no choice of loads in the ranges can be covered within the maximums
   pub none : (o .answer ≡ no-plan) ↔ (Satisfied r D (r .settings .windows .most) → ⊥)
+  -- where some choice can, the answer is "planned"
+  pub some : Satisfied r D (r .settings .windows .most) → SaysPlanned o
   pub windows : (w c : CountRange) → o .answer ≡ planned w c → TrueLeast r D (r .settings .windows) w
   -- each load left in a range occurs in a plan, each load removed in none
   pub loads : (w c : CountRange) → o .answer ≡ planned w c → (i : ℕ) → i < slots r → (x : ℤ) →
@@ -140,8 +159,9 @@ pub record Delivers (r : Request) (D : Definition) (o : Outcome) : Type 0 where
   pub plan : (w c : CountRange) → o .answer ≡ planned w c →
       (X : List ℤ) × ChosenIn (paired (o .lowest) (o .highest)) X × D X (r .settings .windows .most) (runs 0 (o .marks))
 
--- the same by a definition with its maximum of summed length
+-- What is handed back for r, by a definition D with its maximum of summed length
 pub record DeliversCovered (r : Request) (D : Definition) (o : Outcome) : Type 0 where
+  pub some : Satisfied r D (r .settings .covered .most) → SaysPlanned o
   pub covered : (w c : CountRange) → o .answer ≡ planned w c → TrueLeast r D (r .settings .covered) c
 
 -- what `filter` hands back for a request that it does not refuse
@@ -181,9 +201,40 @@ pub record Demand2 : Type 0 where
       Judges s X (SpringyFocus X (s .windows .most) (s .len) (s .h) (s .k))
   pub judge-focus : (s : Settings) (X : List ℤ) → s .h ≡ 0 → s .covered .most ≡ length X →
       Judges s X (Focus X (s .windows .most) (s .len) (s .k))
+  -- filter and judge agree: the plans of a request are the marks to which the judge says yes with their counts, for some
+  -- loads in its ranges
+  pub plans : (r : Request) → WellFormed r → (ms : List ℕ) → PlanOf r ms ↔ YesFor (r .settings) (ranges r) ms
   -- the watch counts the least number of windows, without a maximum, for the loads that led to its state
   pub watch : (k : ℤ) (len h : ℕ) (X : List ℤ) (w : Watch) → Leads k len h X w →
       Least (λ yc. (S : List Run) × SpringyFocus X yc len h k S) (w .windows)
+
+-- What is established beside the demands. Nothing else cites most of it, so that only its place here keeps it.
+pub record Established : Type 0 where
+  -- every request has an outcome that keeps the filter's promise
+  pub kept : (r : Request) → (o : Outcome) × Keeps r o
+  -- the starred cases of document 01, and case L
+  pub starred : Kept cases
+  pub case-l : CaseL
+  -- the computed least counts are the true ones for every number of slots, and what they are for unchecked settings
+  pub least-counts : (s : Settings) (cs : List Class) → LeastCounts s cs
+  -- the published definitions, the rule on windows, and legal marks, for loads and for ranges; examples that the papers
+  -- work out
+  pub published : Theorems
+  pub examples : Examples
+  -- a watch's count is the least over all legal marks, and what `step` tests of a state is whether loads lead there
+  pub watch : Watch·Least
+  pub reached : (w : Watch) → SFits w32 (w .k) → Reached w ↔ Sound w
+  -- form 1 read from its end is form 1 drawn from its front; the look-up gives what the reader does
+  pub read-back : ReadBack
+  pub drawn-only : DrawnOnly
+  pub look-ups : Agree
+  -- numbers as text, and the texts that document 01 prints
+  pub decimals : (n : ℕ) → Decimal n
+  pub texts : Listing·Cases
+  -- no two answers of the judge, the reader or the look-up tell the same
+  pub verdicts : (v w : Verdict) → Judgment·told v ≡ Judgment·told w → v ≡ w
+  pub readings : (r q : Reading) → Reading·told r ≡ Reading·told q → r ≡ q
+  pub records : (f g : Found) → shown f ≡ shown g → f ≡ g
 
 -- Each operation meets its contract, as its source states it, and no contract has a `requires`.
 pub record Contracts : Type 2 where
@@ -204,16 +255,19 @@ pub record Contracts : Type 2 where
   pub viewed : Operation Viewed.Statement.statement Viewed.signature (λ M 𝓤. Viewed.spec 𝓤)
   -- crates/listing/src
   pub answered : Operation ListingAnswered.Statement.statement ListingAnswered.signature (λ M 𝓤. ListingAnswered.spec 𝓤)
+  pub buffer : Operation ListingBuffer.Statement.statement ListingBuffer.signature (λ M 𝓤. ListingBuffer.spec 𝓤)
   pub refused : Operation ListingRefused.Statement.statement ListingRefused.signature (λ M 𝓤. ListingRefused.spec 𝓤)
   -- crates/c_api/src
   pub filter-for-c : Operation CFilter.Statement.statement CFilter.signature (λ M 𝓤. CFilter.spec 𝓤)
   pub judge-for-c : Operation CJudge.Statement.statement CJudge.signature (λ M 𝓤. CJudge.spec 𝓤)
   pub start-for-c : Operation CStart.Statement.statement CStart.signature (λ M 𝓤. CStart.spec 𝓤)
   pub step-for-c : Operation CStep.Statement.statement CStep.signature (λ M 𝓤. CStep.spec 𝓤)
-  -- what these share: the test of a load, checks, least counts, a file's trailer and records, and the numbers of refusals
+  -- what these share: the test of a load, checks, a slot's class and least counts, a file's trailer and records, and the
+  -- numbers of refusals
   pub over : Operation Over.Statement.statement Over.signature (λ M 𝓤. Over.spec 𝓤)
   pub check : Operation Check.Statement.statement Check.signature (λ M 𝓤. Check.spec 𝓤)
   pub check-request : Operation CheckRequest.Statement.statement CheckRequest.signature (λ M 𝓤. CheckRequest.spec 𝓤)
+  pub class-of : Operation ClassOf.Statement.statement ClassOf.signature (λ M 𝓤. ClassOf.spec 𝓤)
   pub low : Operation Low.Statement.statement Low.signature (λ M 𝓤. Low.spec 𝓤)
   pub rows : Operation Rows.Statement.statement Rows.signature (λ M 𝓤. Rows.spec 𝓤)
   pub «open» : Operation Open.Statement.statement Open.signature (λ M 𝓤. Open.spec 𝓤)
@@ -227,4 +281,5 @@ pub record Demands : Type 2 where
   pub first : Demand1
   pub second : Demand2
   pub third : Demand3
+  pub established : Established
   pub contracts : Contracts

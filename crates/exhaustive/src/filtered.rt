@@ -1,126 +1,108 @@
 // The filter beside the search.
 ghost use Prim.Native.Nat.{_≤_};
-use crate::lent::is_plan_for;
-use crate::lent::search;
-use search::Found;
-use search::count;
-use settings::CountRange;
-use small::Given;
-use small::Request;
-use small::Tally;
-use small::UNTOUCHED;
-use small::above;
-use small::at_most;
-use small::numbered;
+use crate::answers::Given;
+use crate::answers::NO_PLAN;
+use crate::answers::PLANNED;
+use crate::answers::UNTOUCHED;
+use crate::answers::ask;
+use crate::counts::Tally;
+use crate::loads::ABOVE;
+use crate::loads::load;
+use crate::numbers::larger;
+use crate::samples::Request;
+use crate::samples::numbered;
+use crate::search::Found;
+use crate::search::count;
+use crate::search::is_plan;
+use crate::search::search;
 
-pub fn compare(n: u16, number: usize) -> Tally {
-    let request = numbered(n, 2, number);
-    let given = request.ask();
-    let found = searched(request);
-    Tally::one(found.planned, agrees(request, given, found))
-}
+// A bit for each of 8 slots.
+const ALL: usize = 255;
 
-fn searched(request: Request) -> Found {
-    let lowest = request.lowest;
-    let highest = request.highest;
-    search(request.settings, request.slots(), lowest, highest)
-}
-
-fn agrees(request: Request, given: Given, found: Found) -> bool {
-    if !found.planned {
-        return given.answer.no_plan && is_unaltered(request, given);
-    }
-    if !given.answer.planned {
-        return false;
-    }
-    if !is_raised(
-        request.settings.windows,
-        found.windows,
-        given.answer.windows,
-    ) {
-        return false;
-    }
-    if !is_raised(
-        request.settings.covered,
-        found.covered,
-        given.answer.covered,
-    ) {
-        return false;
-    }
-    is_narrowed(request, given, found) && has_plan(request, given)
-}
-
-fn is_unaltered(request: Request, given: Given) -> bool {
-    let lowest = request.lowest;
-    let highest = request.highest;
-    let marks = given.marks;
-    holds(given, lowest, highest) && count(&marks, UNTOUCHED) == 8
-}
-
-// The minimum is the least count found or the given one, whichever is larger; the maximum is the given one.
-fn is_raised(before: CountRange, found: usize, after: CountRange) -> bool {
-    if after.most != before.most {
-        return false;
-    }
-    let least = before.least as usize;
-    if found > least {
-        return after.least as usize == found;
-    }
-    after.least as usize == least
-}
-
-// A slot loses the side of k that occurs in no plan.
-fn is_narrowed(request: Request, given: Given, found: Found) -> bool {
-    let n = request.slots();
-    let k = request.settings.k;
-    let lowest = request.lowest;
-    let highest = request.highest;
-    let under = found.under;
-    let over = found.over;
-    holds(
-        given,
-        cut(n, k, above(request.threshold), lowest, under, false),
-        cut(n, k, k, highest, over, true),
-    )
-}
-
-// Moves to the bound those of the first n loads that are on one side of k, the over one or the other, and whose slot does not
-// keep that side.
-fn cut(n: usize, k: i32, bound: i32, loads: [i32; 8], keeps: [bool; 8], over: bool) -> [i32; 8]
+pub fn compare(tally: Tally, n: u16, number: usize) -> Tally
     requires { ⌜ n ≤ 8 ⌝ }
 {
-    let mut left = loads;
-    let mut i = 0;
-    while i < n {
-        left[i] = cut_load(left[i], k, bound, keeps[i], over);
-        i += 1;
-    }
-    left
+    let request = numbered(n, 2, number);
+    let given = ask(request, n);
+    let lowest = request.lowest;
+    let highest = request.highest;
+    let found = search(request.settings, n as usize, lowest, highest);
+    tally.with(found.planned, agrees(request, n as usize, given, found))
 }
 
-fn cut_load(load: i32, k: i32, bound: i32, keeps: bool, over: bool) -> i32 {
-    if keeps || (load > k) != over {
+// Whether the filter gave what was found. A minimum is the least count found or the given one, whichever is larger.
+pub fn agrees(request: Request, n: usize, given: Given, found: Found) -> bool
+    requires { ⌜ n ≤ 8 ⌝ }
+{
+    let outcome = given.outcome;
+    if !found.planned {
+        return (outcome.code == NO_PLAN) & is_unaltered(request, n, given);
+    }
+    (outcome.code == PLANNED)
+        & (outcome.windows == larger(request.settings.windows.least, found.windows))
+        & (outcome.covered == larger(request.settings.covered.least, found.covered))
+        & is_narrowed(request, n, given, found.under, found.over)
+        & has_plan(request, n, given)
+}
+
+fn is_unaltered(request: Request, n: usize, given: Given) -> bool
+    requires { ⌜ n ≤ 8 ⌝ }
+{
+    let marks = given.marks;
+    is_narrowed(request, n, given, ALL, ALL) & (count(marks, 0, 8, UNTOUCHED) == 8)
+}
+
+// Whether each slot lost the side of k that it has no bit for, and nothing else.
+fn is_narrowed(request: Request, n: usize, given: Given, under: usize, over: usize) -> bool
+    requires { ⌜ n ≤ 8 ⌝ }
+{
+    let k = request.settings.k;
+    let above = load(request.threshold, ABOVE);
+    let lowest = request.lowest;
+    let highest = request.highest;
+    let given_lowest = given.lowest;
+    let given_highest = given.highest;
+    is_cut(n, k, above, lowest, given_lowest, under, false)
+        & is_cut(n, k, k, highest, given_highest, over, true)
+}
+
+// Whether the first n loads became these.
+fn is_cut(
+    n: usize,
+    k: i32,
+    bound: i32,
+    before: [i32; 8],
+    after: [i32; 8],
+    keeps: usize,
+    over: bool,
+) -> bool
+    requires { ⌜ n ≤ 8 ⌝ }
+{
+    let mut i = 0;
+    while i < n {
+        if after[i] != cut(before[i], k, bound, keeps >> i & 1 == 1, over) {
+            return false;
+        }
+        i += 1;
+    }
+    true
+}
+
+// Moves a load to the bound if it is on one side of k, the over one or the other, and its slot does not keep that side.
+fn cut(load: i32, k: i32, bound: i32, keeps: bool, over: bool) -> i32 {
+    if keeps | ((load > k) != over) {
         load
     } else {
         bound
     }
 }
 
-// Whether these are the loads handed back.
-fn holds(given: Given, lowest: [i32; 8], highest: [i32; 8]) -> bool {
-    let given_lowest = given.lowest;
-    let given_highest = given.highest;
-    same(&given_lowest, &lowest) && same(&given_highest, &highest)
-}
-
-fn same(loads: &[i32], others: &[i32]) -> bool {
-    at_most(loads, others) && at_most(others, loads)
-}
-
 // Whether the marks handed back are a plan for the narrowed ranges.
-fn has_plan(request: Request, given: Given) -> bool {
+fn has_plan(request: Request, n: usize, given: Given) -> bool
+    requires { ⌜ n ≤ 8 ⌝ }
+{
     let lowest = given.lowest;
     let highest = given.highest;
     let marks = given.marks;
-    is_plan_for(request.settings, request.slots(), lowest, highest, marks)
+    is_plan(request.settings, n, lowest, highest, marks)
 }

@@ -1,24 +1,27 @@
 // The judge beside the search's reading of the rule.
 ghost use Prim.Native.Nat.{_≤_};
-use crate::lent::is_plan_for;
+use crate::counts::Tally;
+use crate::samples::numbered;
+use crate::search;
+use crate::search::is_plan;
 use judge::Verdict;
 use judge::judge;
 use settings::Settings;
-use small::Request;
-use small::Tally;
-use small::numbered;
 
 // The bytes that are tried as marks.
 const BYTES: [u8; 6] = [0, 1, 2, 3, 4, 255];
 
 // Every string of bytes for the over and under loads of a request.
-pub fn compare(n: u16, number: usize) -> Tally {
+pub fn compare(before: Tally, n: u16, number: usize) -> Tally
+    requires { ⌜ n ≤ 8 ⌝ }
+{
     let request = numbered(n, 1, number);
+    let loads = request.lowest;
     let strings = strings_of(n);
-    let mut tally = Tally::none();
+    let mut tally = before;
     let mut string = 0;
     while string < strings {
-        tally = tally.and(compare_one(request, string));
+        tally = compare_plan(tally, request.settings, n as usize, loads, bytes_of(string));
         string += 1;
     }
     tally
@@ -35,30 +38,27 @@ fn strings_of(n: u16) -> usize {
     }
 }
 
-fn compare_one(request: Request, string: usize) -> Tally {
-    let loads = request.lowest;
-    compare_plan(request.settings, request.slots(), loads, bytes_of(string))
-}
-
-fn compare_plan(settings: Settings, n: usize, loads: [i32; 8], marks: [u8; 8]) -> Tally
+fn compare_plan(
+    tally: Tally,
+    settings: Settings,
+    n: usize,
+    loads: [i32; 8],
+    marks: [u8; 8],
+) -> Tally
     requires { ⌜ n ≤ 8 ⌝ }
 {
     let verdict = judge(settings, &loads[..n], &marks[..n]);
-    let yes = is_plan_for(settings, n, loads, loads, marks);
-    Tally::one(yes, agrees(verdict, yes, &marks[..n]))
+    let yes = is_plan(settings, n, loads, loads, marks);
+    tally.with(yes, agrees(verdict, yes, n, marks))
 }
 
 // Yes with the counts of the marks, or no.
-fn agrees(verdict: Verdict, yes: bool, marks: &[u8]) -> bool {
+fn agrees(verdict: Verdict, yes: bool, n: usize, marks: [u8; 8]) -> bool
+    requires { ⌜ n ≤ 8 ⌝ }
+{
     match verdict {
         Verdict::Yes { windows, covered } => {
-            if !yes {
-                return false;
-            }
-            if windows as usize != search::windows(marks) {
-                return false;
-            }
-            covered as usize == search::covered(marks)
+            yes & (windows == search::windows(n, marks)) & (covered == search::covered(n, marks))
         }
         Verdict::No => !yes,
         Verdict::Refused(_) => false,

@@ -1,39 +1,37 @@
 // Demand 3 for two requests, of which one is looser.
+ghost use Prim.Native.Nat.{_≤_};
+use crate::answers::Given;
+use crate::answers::NO_PLAN;
+use crate::answers::PLANNED;
+use crate::answers::ask;
+use crate::answers::stays;
+use crate::counts::Tally;
+use crate::loads::load;
+use crate::numbers::larger;
+use crate::numbers::less;
+use crate::numbers::next;
+use crate::numbers::pick;
+use crate::samples::Request;
+use crate::samples::numbered;
 use settings::CountRange;
 use settings::Settings;
-use small::Given;
-use small::Request;
-use small::Tally;
-use small::at_most;
-use small::last_shape;
-use small::next;
-use small::numbered;
-use small::over;
-use small::pick;
-use small::shaped;
-use small::under;
 
-pub fn compare(n: u16, number: usize) -> Tally {
+pub fn compare(tally: Tally, n: u16, number: usize) -> Tally
+    requires { ⌜ n ≤ 8 ⌝ }
+{
     let request = numbered(n, 2, number);
-    let tighter = request.ask();
-    let looser = loosened(request).ask();
-    Tally::one(tighter.answer.planned, agrees(tighter, looser))
+    let tighter = ask(request, n);
+    let looser = ask(loosened(request, n, next(number)), n);
+    tally.with(tighter.outcome.code == PLANNED, agrees(tighter, looser))
 }
 
 fn agrees(tighter: Given, looser: Given) -> bool {
-    if !tighter.answer.planned {
-        return tighter.answer.no_plan && looser.answer.is_answer();
+    let before = tighter.outcome;
+    let after = looser.outcome;
+    if before.code == NO_PLAN {
+        return stays(before, after, 0);
     }
-    if !looser.answer.planned {
-        return false;
-    }
-    if looser.answer.windows.least > tighter.answer.windows.least {
-        return false;
-    }
-    if looser.answer.covered.least > tighter.answer.covered.least {
-        return false;
-    }
-    lies_within(tighter, looser)
+    stays(before, after, 0) & (after.covered <= before.covered) & lies_within(tighter, looser)
 }
 
 fn lies_within(tighter: Given, looser: Given) -> bool {
@@ -41,23 +39,31 @@ fn lies_within(tighter: Given, looser: Given) -> bool {
     let tighter_highest = tighter.highest;
     let looser_lowest = looser.lowest;
     let looser_highest = looser.highest;
-    at_most(&looser_lowest, &tighter_lowest) && at_most(&tighter_highest, &looser_highest)
+    at_most(looser_lowest, tighter_lowest) & at_most(tighter_highest, looser_highest)
+}
+
+fn at_most(loads: [i32; 8], others: [i32; 8]) -> bool {
+    let mut i = 0;
+    while i < 8 {
+        if loads[i] > others[i] {
+            return false;
+        }
+        i += 1;
+    }
+    true
 }
 
 // Wider ranges, len, h and maximums no smaller, minimums no larger; k and n stay.
-fn loosened(request: Request) -> Request {
-    let seed = next(request.seed / 5);
+fn loosened(request: Request, n: u16, seed: usize) -> Request {
     let lowest = request.lowest;
     let highest = request.highest;
     let lower = moved(lowest, request.threshold, next(seed / 2), false);
     let higher = moved(highest, request.threshold, next(seed / 3), true);
     Request {
-        settings: loosened_settings(request.settings, request.n, seed),
+        settings: loosened_settings(request.settings, n, next(seed / 5)),
         threshold: request.threshold,
-        n: request.n,
         lowest: lower,
         highest: higher,
-        seed,
     }
 }
 
@@ -67,7 +73,7 @@ fn moved(loads: [i32; 8], threshold: usize, seed: usize, up: bool) -> [i32; 8] {
     let mut random = seed;
     let mut i = 0;
     while i < 8 {
-        now[i] = moved_to(now[i], some_load(threshold, random), up);
+        now[i] = moved_to(now[i], load(threshold, random / 65536), up);
         random = next(random);
         i += 1;
     }
@@ -78,45 +84,22 @@ fn moved_to(load: i32, other: i32, up: bool) -> i32 {
     if (other > load) == up { other } else { load }
 }
 
-fn some_load(threshold: usize, seed: usize) -> i32 {
-    let i = seed / 131072 % 4;
-    if pick(seed, 1) == 0 {
-        under(threshold, i)
-    } else {
-        over(threshold, i)
-    }
-}
-
+// The h drawn is accepted with the len drawn, so that the larger h is accepted with the larger len.
 fn loosened_settings(settings: Settings, n: u16, seed: usize) -> Settings {
-    let shape = shaped(pick(seed, last_shape(n)));
-    let windows = loosened_counts(settings.windows, n, next(seed / 5));
-    let covered = loosened_counts(settings.covered, n, next(seed / 7));
-    if shape.len < settings.len || shape.h < settings.h {
-        return Settings {
-            k: settings.k,
-            len: settings.len,
-            h: settings.h,
-            windows,
-            covered,
-        };
-    }
+    let len = pick(seed, n);
+    let h = pick(next(seed), less(len, 2));
     Settings {
         k: settings.k,
-        len: shape.len,
-        h: shape.h,
-        windows,
-        covered,
+        len: larger(settings.len, len),
+        h: larger(settings.h, h),
+        windows: loosened_counts(settings.windows, n, next(seed / 5)),
+        covered: loosened_counts(settings.covered, n, next(seed / 7)),
     }
 }
 
 fn loosened_counts(range: CountRange, n: u16, seed: usize) -> CountRange {
-    let least = pick(next(seed), range.least);
-    let most = pick(seed, n);
-    if most < range.most {
-        return CountRange {
-            least,
-            most: range.most,
-        };
+    CountRange {
+        least: pick(next(seed), range.least),
+        most: larger(range.most, pick(seed, n)),
     }
-    CountRange { least, most }
 }

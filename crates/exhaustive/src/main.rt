@@ -1,23 +1,49 @@
-// Runs the filter, the judge and the watch beside a separately written exhaustive search, and demand 3 on what the filter hands
-// back. A line for each says how many were compared, how many of these were planned, said yes to or have a window, and how many
-// differ. Requests of up to 5 slots, plans of up to 4 and watches of up to 8 are all compared, longer requests in samples.
+// Compares the filter, the judge and the watch with an exhaustive search, and refusals with document 01's table, both
+// written for themselves; and what the filter hands back with demand 3. Each line has how many were compared, how many
+// of these were planned, said yes to or have a window, and how many differ.
+//
+// Requests: every string of up to 5 slots that are under only, over only or open, with every accepted len and h and
+// every pair of maximums; each with one threshold, one choice of loads and one pair of minimums. Longer requests are
+// samples of 6 to 8 slots.
+// Plans: every string of up to 4 slots that are under or over, with the same settings, and every string of the bytes 0
+// to 4 and 255 as marks.
+// Watches: every string of up to 8 slots that are under or over, with every accepted len and h.
+// Loosenings: one of each request, the longer ones too. Settlings: every one of every open slot, of the requests among
+// these whose window maximum is n.
+// Calls of the filter and the judge, and starts of a watch, at and around the limits of the table. Their lines have how
+// often the table gives each number, and how often none, as 0.
+use crate::calls::FILTER_CALLS;
+use crate::calls::JUDGE_CALLS;
+use crate::calls::STARTS;
+use crate::counts::write;
+use crate::refused::Operation;
 use crate::runs::Kind;
 use crate::runs::run;
-use small::write;
 
+mod answers;
+mod calls;
+mod counts;
 mod filtered;
 mod judged;
-mod lent;
+mod loads;
 mod loosened;
+mod numbers;
+mod refused;
 mod runs;
+mod samples;
+mod search;
 mod settled;
+mod table;
 mod watched;
 
 fn main() {
-    let filter = run(Kind::Filtered, 1, 6).and(run(Kind::Filtered, 6, 9));
-    let others = run(Kind::Judged, 1, 5).and(run(Kind::Watched, 1, 9));
-    let demand = run(Kind::Loosened, 1, 9).and(run(Kind::Settled, 1, 9));
-    if filter.and(others).and(demand).differ == 0 {
+    let filter = run(Kind::Filtered, 1, 6) & run(Kind::Filtered, 6, 9);
+    let others = run(Kind::Judged, 1, 5) & run(Kind::Watched, 1, 9);
+    let demand = run(Kind::Loosened, 1, 9) & run(Kind::Settled, 1, 9);
+    let refusals = refused::run(Operation::Filter, FILTER_CALLS)
+        & refused::run(Operation::Judge, JUDGE_CALLS)
+        & refused::run(Operation::Start, STARTS);
+    if filter & others & demand & refusals {
         write(b"all agree\n");
     }
 }

@@ -1,13 +1,15 @@
 // Goes through comparisons by their numbers, and prints what came of them.
-ghost use Prim.Native.Nat.{_<_};
+ghost use Prim.Native.Nat.{_≤_, _<_};
+use crate::counts::Tally;
+use crate::counts::end_line;
+use crate::counts::write;
+use crate::counts::write_count;
 use crate::filtered;
 use crate::judged;
 use crate::loosened;
+use crate::samples::is_accepted;
 use crate::settled;
 use crate::watched;
-use small::Tally;
-use small::counted;
-use small::write;
 
 // What is compared.
 pub enum Kind {
@@ -18,88 +20,75 @@ pub enum Kind {
     Settled,
 }
 
-// Compares those with a number of slots from first to below end, and prints a line.
-pub fn run(kind: Kind, first: u16, end: u16) -> Tally {
-    let tally = all(kind, first, end);
-    if first > 5 {
-        write(b"longer ");
-    }
-    print(kind, tally);
-    tally
-}
+// How many numbers there are for n slots: strings of three classes, times (n + 1)^4 for what else is asked.
+const OPEN: [u32; 9] = [
+    0,
+    3 * 16,
+    9 * 81,
+    27 * 256,
+    81 * 625,
+    243 * 1296,
+    729 * 2401,
+    2187 * 4096,
+    6561 * 6561,
+];
 
-fn all(kind: Kind, first: u16, end: u16) -> Tally {
-    let mut tally = Tally::none();
+// The same with strings of two classes.
+const FIXED: [u32; 9] = [
+    0,
+    2 * 16,
+    4 * 81,
+    8 * 256,
+    16 * 625,
+    32 * 1296,
+    64 * 2401,
+    128 * 4096,
+    256 * 6561,
+];
+
+// Compares those of first slots to those of fewer than end, and prints a line. Whether all agree.
+pub fn run(kind: Kind, first: u16, end: u16) -> bool
+    requires { ⌜ end ≤ 9 ⌝ }
+{
+    let mut tally = Tally {
+        compared: 0,
+        met: 0,
+        differ: 0,
+    };
     let mut n = first;
     while n < end {
         tally = every(tally, kind, n, numbers(kind, n), step(kind, n));
         n += 1;
     }
-    tally
+    print(kind, first, tally);
+    tally.differ == 0
 }
 
-// Adds those of n slots: each number from 0 to below end, by steps.
-fn every(before: Tally, kind: Kind, n: u16, end: usize, step: usize) -> Tally
-    requires { ⌜ (end < 4294967296) × (0 < step) × (step < 4294967296) ⌝ }
+// Adds those of n slots: the numbers from 0 to below end, by steps.
+fn every(before: Tally, kind: Kind, n: u16, end: u32, step: usize) -> Tally
+    requires { ⌜ (n ≤ 8) × (0 < step) × (step < 4294967296) ⌝ }
 {
     let mut tally = before;
-    let mut number = 0;
-    while number < end {
+    let mut number: usize = 0;
+    while number < end as usize {
         tally = add(tally, kind, n, number);
         number += step;
     }
     tally
 }
 
-// How many requests of n slots there are.
-fn numbers(kind: Kind, n: u16) -> usize
-    ensures { λ r. ⌜ r < 4294967296 ⌝ }
+fn numbers(kind: Kind, n: u16) -> u32
+    requires { ⌜ n ≤ 8 ⌝ }
 {
     match kind {
-        Kind::Filtered => open_numbers(n),
-        Kind::Judged => fixed_numbers(n),
-        Kind::Watched => fixed_numbers(n),
-        Kind::Loosened => open_numbers(n),
-        Kind::Settled => open_numbers(n),
+        Kind::Judged | Kind::Watched => FIXED[n as usize],
+        _ => OPEN[n as usize],
     }
 }
 
-// Strings of three classes, times pairs of len and h, times pairs of maximums.
-fn open_numbers(n: u16) -> usize
-    ensures { λ r. ⌜ r < 4294967296 ⌝ }
-{
-    match n {
-        1 => 3 * 1 * 4,
-        2 => 9 * 2 * 9,
-        3 => 27 * 4 * 16,
-        4 => 81 * 7 * 25,
-        5 => 243 * 11 * 36,
-        6 => 729 * 16 * 49,
-        7 => 2187 * 22 * 64,
-        8 => 6561 * 29 * 81,
-        _ => 0,
-    }
-}
-
-// The same with strings of two classes.
-fn fixed_numbers(n: u16) -> usize
-    ensures { λ r. ⌜ r < 4294967296 ⌝ }
-{
-    match n {
-        1 => 2 * 1 * 4,
-        2 => 4 * 2 * 9,
-        3 => 8 * 4 * 16,
-        4 => 16 * 7 * 25,
-        5 => 32 * 11 * 36,
-        6 => 64 * 16 * 49,
-        7 => 128 * 22 * 64,
-        8 => 256 * 29 * 81,
-        _ => 0,
-    }
-}
-
-// Of the open requests of more than 5 slots only samples are taken. The steps have no factor in common with the numbers.
+// Of the open requests of more than 5 slots samples are taken, by steps that have no factor in common with the numbers.
 fn step(kind: Kind, n: u16) -> usize
+    requires { ⌜ n ≤ 8 ⌝ }
     ensures { λ r. ⌜ (0 < r) × (r < 4294967296) ⌝ }
 {
     if let Kind::Watched = kind {
@@ -113,37 +102,64 @@ fn step(kind: Kind, n: u16) -> usize
     }
 }
 
-// The first few that differ are named.
-fn add(before: Tally, kind: Kind, n: u16, number: usize) -> Tally {
-    let more = compare(kind, n, number);
-    if more.differ > 0 && before.differ < 5 {
+// The first few that differ are named, by slots and number.
+fn add(before: Tally, kind: Kind, n: u16, number: usize) -> Tally
+    requires { ⌜ n ≤ 8 ⌝ }
+{
+    if !is_accepted(n, number) {
+        return before;
+    }
+    let after = compare(before, kind, n, number);
+    if (after.differ > before.differ) & (before.differ < 5) {
         name(n, number);
     }
-    before.and(more)
+    after
 }
 
 fn name(n: u16, number: usize) {
-    counted(b"slots ", n as u64);
-    counted(b" number ", number as u64);
-    write(b" differs\n");
+    write(b"differs");
+    write_count(n as u32);
+    write_count((number % 4294967296) as u32);
+    write(b"\n");
 }
 
-fn compare(kind: Kind, n: u16, number: usize) -> Tally {
+fn compare(tally: Tally, kind: Kind, n: u16, number: usize) -> Tally
+    requires { ⌜ n ≤ 8 ⌝ }
+{
     match kind {
-        Kind::Filtered => filtered::compare(n, number),
-        Kind::Judged => judged::compare(n, number),
-        Kind::Watched => watched::compare(n, number),
-        Kind::Loosened => loosened::compare(n, number),
-        Kind::Settled => settled::compare(n, number),
+        Kind::Filtered => filtered::compare(tally, n, number),
+        Kind::Judged => judged::compare(tally, n, number),
+        Kind::Watched => watched::compare(tally, n, number),
+        Kind::Loosened => loosened::compare(tally, n, number),
+        Kind::Settled => settled::compare(tally, n, number),
     }
 }
 
-fn print(kind: Kind, tally: Tally) {
+fn print(kind: Kind, first: u16, tally: Tally) {
+    if first > 5 {
+        write(b"longer ");
+    }
+    write_kind(kind);
+    write_count(tally.compared);
+    write_met(kind);
+    write_count(tally.met);
+    end_line(tally.differ);
+}
+
+fn write_kind(kind: Kind) {
     match kind {
-        Kind::Filtered => tally.print(b"requests ", b" planned "),
-        Kind::Judged => tally.print(b"plans ", b" yes "),
-        Kind::Watched => tally.print(b"watches ", b" with windows "),
-        Kind::Loosened => tally.print(b"loosenings ", b" planned "),
-        Kind::Settled => tally.print(b"settlings ", b" planned "),
+        Kind::Filtered => write(b"requests"),
+        Kind::Judged => write(b"plans"),
+        Kind::Watched => write(b"watches"),
+        Kind::Loosened => write(b"loosenings"),
+        Kind::Settled => write(b"settlings"),
+    }
+}
+
+fn write_met(kind: Kind) {
+    match kind {
+        Kind::Judged => write(b" yes"),
+        Kind::Watched => write(b" with windows"),
+        _ => write(b" planned"),
     }
 }

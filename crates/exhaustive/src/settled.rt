@@ -1,102 +1,81 @@
 // Demand 3 for an open slot that is settled, with the window range 0 to n.
-ghost use Prim.Native.Nat.{_<_};
-use settings::CountRange;
-use small::Outcome;
-use small::Request;
-use small::Tally;
-use small::above;
-use small::numbered;
+ghost use Prim.Native.Nat.{_≤_, _<_};
+use crate::answers::Outcome;
+use crate::answers::PLANNED;
+use crate::answers::ask;
+use crate::answers::stays;
+use crate::counts::Tally;
+use crate::loads::ABOVE;
+use crate::loads::load;
+use crate::samples::Request;
+use crate::samples::numbered;
 
-// Every settling of every open slot. Of the requests that differ in their window maximum alone, one is taken.
-pub fn compare(n: u16, number: usize) -> Tally {
-    let request = numbered(n, 2, number);
+// Every settling of every open slot, for the requests whose window maximum is n. Their window minimum becomes 0.
+pub fn compare(tally: Tally, n: u16, number: usize) -> Tally
+    requires { ⌜ n ≤ 8 ⌝ }
+{
+    let mut request = numbered(n, 2, number);
     if request.settings.windows.most != n {
-        return Tally::none();
+        return tally;
     }
-    settle_each(request.any_windows())
+    request.settings.windows.least = 0;
+    settle_each(tally, request, n)
 }
 
-fn settle_each(request: Request) -> Tally {
-    let given = request.ask();
-    let before = given.answer;
-    let n = request.slots();
-    let mut tally = Tally::none();
+// Each slot is settled under, and then over.
+fn settle_each(before: Tally, request: Request, n: u16) -> Tally
+    requires { ⌜ n ≤ 8 ⌝ }
+{
+    let given = ask(request, n);
+    let outcome = given.outcome;
+    let settlings = 2 * n;
+    let mut tally = before;
     let mut i = 0;
-    while i < n {
-        tally = tally.and(settle(request, before, i));
+    while i < settlings {
+        tally = settle(tally, request, n, outcome, i as usize);
         i += 1;
     }
     tally
 }
 
-fn settle(request: Request, before: Outcome, i: usize) -> Tally
-    requires { ⌜ i < 8 ⌝ }
+fn settle(tally: Tally, request: Request, n: u16, before: Outcome, i: usize) -> Tally
+    requires { ⌜ (n ≤ 8) × (i < 16) ⌝ }
 {
-    if !is_open(request, i) {
-        return Tally::none();
+    let slot = i / 2;
+    if !is_open(request, slot) {
+        return tally;
     }
-    one(before, settled_under(request, i)).and(one(before, settled_over(request, i)))
+    let given = ask(settled(request, n, slot, i % 2 == 1), n);
+    tally.with(before.code == PLANNED, stays(before, given.outcome, 1))
 }
 
 fn is_open(request: Request, i: usize) -> bool
     requires { ⌜ i < 8 ⌝ }
 {
-    let lowest = request.lowest;
-    let highest = request.highest;
-    lowest[i] <= request.settings.k && highest[i] > request.settings.k
+    (request.lowest[i] <= request.settings.k) & (request.highest[i] > request.settings.k)
 }
 
-fn one(before: Outcome, settled: Request) -> Tally {
-    let given = settled.ask();
-    Tally::one(before.planned, agrees(before, given.answer))
-}
-
-// Planned stays planned, with at most one window more.
-fn agrees(before: Outcome, after: Outcome) -> bool {
-    if !before.planned {
-        return before.no_plan && after.is_answer();
-    }
-    if !after.planned {
-        return false;
-    }
-    after.windows.least as u32 <= before.windows.least as u32 + 1
-}
-
-fn settled_under(request: Request, i: usize) -> Request
-    requires { ⌜ i < 8 ⌝ }
+// Under: the highest load becomes the threshold. Over: the lowest becomes the next number, and the covered maximum one
+// more, or n if that is smaller.
+fn settled(request: Request, n: u16, slot: usize, over: bool) -> Request
+    requires { ⌜ slot < 8 ⌝ }
 {
+    let mut settled = request;
+    if over {
+        let above = load(request.threshold, ABOVE);
+        let most = one_more(request.settings.covered.most, n);
+        settled.lowest[slot] = above;
+        settled.settings.covered.most = most;
+        return settled;
+    }
     let k = request.settings.k;
-    let mut highest = request.highest;
-    highest[i] = k;
-    let mut settled = request;
-    settled.highest = highest;
+    settled.highest[slot] = k;
     settled
 }
 
-fn settled_over(request: Request, i: usize) -> Request
-    requires { ⌜ i < 8 ⌝ }
-{
-    let mut lowest = request.lowest;
-    lowest[i] = above(request.threshold);
-    let mut settings = request.settings;
-    let covered = one_more(settings.covered, request.n);
-    settings.covered = covered;
-    let mut settled = request;
-    settled.lowest = lowest;
-    settled.settings = settings;
-    settled
-}
-
-// The maximum one higher, or n if that is smaller.
-fn one_more(range: CountRange, n: u16) -> CountRange {
-    if range.most >= n {
-        return CountRange {
-            least: range.least,
-            most: n,
-        };
+fn one_more(most: u16, n: u16) -> u16 {
+    if most >= n {
+        return n;
     }
-    CountRange {
-        least: range.least,
-        most: range.most + 1,
-    }
+    most + 1
 }

@@ -1,11 +1,12 @@
-// The watch beside the filter: on fixed loads and with no count maximum, both name the least number of windows.
+// The watch beside the search: on fixed loads its count is the least number of windows that the search finds with both
+// count ranges 0 to n. The filter is compared with the search on these requests too.
 ghost use Prim.Native.Nat.{_≤_};
-use settings::CountRange;
+use crate::answers::ask;
+use crate::counts::Tally;
+use crate::filtered::agrees;
+use crate::samples::numbered;
+use crate::search::search;
 use settings::Settings;
-use small::Outcome;
-use small::Request;
-use small::Tally;
-use small::numbered;
 use watch::Ended;
 use watch::Started;
 use watch::Watch;
@@ -13,54 +14,40 @@ use watch::Watch;
 // A count of windows that no plan has.
 const REFUSED: u32 = 4294967295;
 
-// Of the requests that differ in their maximums alone, one is taken.
-pub fn compare(n: u16, number: usize) -> Tally {
-    let request = numbered(n, 1, number);
-    if request.settings.windows.most != n || request.settings.covered.most != n {
-        return Tally::none();
+// Of the requests that differ in their maximums alone, the one with both at n is taken. Its minimums become 0, and its
+// lowest loads are the fixed ones.
+pub fn compare(tally: Tally, n: u16, number: usize) -> Tally
+    requires { ⌜ n ≤ 8 ⌝ }
+{
+    let mut request = numbered(n, 1, number);
+    if (request.settings.windows.most != n) | (request.settings.covered.most != n) {
+        return tally;
     }
-    let alone = fixed(request.any_windows());
-    let given = alone.ask();
-    let loads = alone.lowest;
-    let windows = watched(alone.settings, alone.slots(), loads);
-    Tally::one(windows > 0, agrees(given.answer, windows))
-}
-
-fn agrees(outcome: Outcome, windows: u32) -> bool {
-    outcome.planned && outcome.windows.least as u32 == windows
-}
-
-// The lowest load of each slot alone, with the covered range 0 to n.
-fn fixed(request: Request) -> Request {
-    let any = CountRange {
-        least: 0,
-        most: request.n,
-    };
-    let mut settings = request.settings;
-    settings.covered = any;
     let loads = request.lowest;
-    let mut other = request;
-    other.settings = settings;
-    other.highest = loads;
-    other
+    request.settings.windows.least = 0;
+    request.settings.covered.least = 0;
+    request.highest = loads;
+    let windows = watched(request.settings, n as usize, loads);
+    let found = search(request.settings, n as usize, loads, loads);
+    let given = ask(request, n);
+    let agrees = agrees(request, n as usize, given, found);
+    tally.with(
+        windows > 0,
+        agrees & found.planned & (found.windows as u32 == windows),
+    )
 }
 
 fn watched(settings: Settings, n: usize, loads: [i32; 8]) -> u32
     requires { ⌜ n ≤ 8 ⌝ }
 {
     let started = Watch::start(settings.k, settings.len, settings.h);
-    match started {
-        Started::Watching(watch) => windows(watch, &loads[..n]),
-        Started::Refused(_) => REFUSED,
-    }
-}
-
-fn windows(watch: Watch, loads: &[i32]) -> u32 {
-    let ran = watch.run(loads);
+    let Started::Watching(watch) = started else {
+        return REFUSED;
+    };
+    let ran = watch.run(&loads[..n]);
     let ended = ran.ended;
-    let after = ran.watch;
-    match ended {
-        Ended::All => after.windows,
-        Ended::Stopped(_) => REFUSED,
-    }
+    let Ended::All = ended else {
+        return REFUSED;
+    };
+    ran.watch.windows
 }

@@ -4,16 +4,16 @@ use native.Mathlib.Nat.{eq-or-lt-of-le}
 use native.Mathlib.Omega.{arith}
 use mathlib.Core.List.{List, map}
 use mathlib.Core.Logic.{⊎-elim}
-use mathlib.Core.Path.{_≡_, sym, _∙_, subst}
+use mathlib.Core.Path.{_≡_, sym, ap, _∙_, subst}
 use lib.IntN.{ℤ}
 use lib.ListN.{length, take, getD, set, replicate, length-map, length-set, length-replicate}
 use lib.Seq.{ext-getD, getD-set-same, getD-set-other, length-take-le}
 use Rattle.rule.specs.Ranges.{under-only, classOf}
 use Rattle.settings.specs.Refusals.{limit}
 use Rattle.requests.proofs.Choices.{paired-length}
-use Rattle.least.proofs.Coding.{code-at}
+use Rattle.least.proofs.Coding.{code-back, code-at}
 use Rattle.requests.proofs.Narrowing.{class-at}
-use Rattle.least.specs.Codes.{coded, decoded}
+use Rattle.least.specs.Codes.{code, coded, decoded}
 use Rattle.requests.specs.Request.{range, at, paired}
 
 -- what holds of the places before i, and of the value written to place i, holds of the places before i + 1
@@ -37,13 +37,13 @@ module _ {k : ℤ} {los his : List ℤ} where
   none-classed = record { inside = omega arith; wide = length-replicate {A = ℕ} 64 0; classes = λ j l. absurd (omega arith) }
 
   module _ (short : length los ≤ limit) (codes : List ℕ) (i : ℕ) (f : Classed k los his codes i) where
-    pub one-classed : (v : ℕ) → i < length los → coded v ≡ classOf k (range (at los i) (at his i)) →
+    pub one-classed : (v : ℕ) → i < length los → v ≡ code (classOf k (range (at los i) (at his i))) →
         Classed k los his (set codes i v) (i + 1)
     one-classed v e is =
         record {
           inside = omega arith;
           wide = length-set codes i v ∙ f .wide;
-          classes = written Right codes i v 0 (omega (arith, f .wide)) (f .classes) is;
+          classes = written Right codes i v 0 (omega (arith, f .wide)) (f .classes) (ap coded is ∙ code-back _);
         }
       where
         Right : ℕ → ℕ → Type 0

@@ -18,10 +18,10 @@ use Rattle.settings.specs.Refusals.{limit}
 use Rattle.rule.specs.Rule.{count, legalBy, windows, covered}
 use Rattle.settings.specs.declared.Settings.{Settings}
 use Rattle.least.proofs.Coding.{cannot-be-uncovered}
-use Rattle.requests.proofs.Exact.{Fits, least}
+use Rattle.requests.proofs.Exact.{least}
 use Rattle.least.proofs.Filling.{at-slot}
 use Rattle.least.proofs.Scanning.{from-slot}
-use Rattle.requests.specs.Best.{spend, dearer, best, onward, after}
+use Rattle.requests.specs.Best.{Fits, spend, dearer, best, onward, after}
 use Rattle.least.specs.Codes.{coded, decoded}
 use Rattle.filter.specs.Drawing.{Able, closedBy, outsideBy, insideBy, nextBy}
 use Rattle.least.specs.Rows.{Behind}
@@ -248,11 +248,12 @@ module _ (s : Settings) (classes : List ℕ) where
       }
 
   module _ (marks : List ℕ) (p : Pen) (row : List ℕ) (i : ℕ) (d : Drawn marks p row i) where
-    pub closes : {q : Pen} → q ≡ closedBy p (getD row i 0) → Closed len-room (s .h) (drop i cs) (d .slots) (d .bridges) p q
-    closes is =
+    pub closes : {q : Pen} → i ≤ limit → q ≡ closedBy p (getD row i 0) →
+        Closed len-room (s .h) (drop i cs) (d .slots) (d .bridges) p q
+    closes short is =
         rw is
         (closing len-room (s .h) (drop i cs) (d .slots) (d .bridges) p (getD row i 0)
-        (λ n. at-slot s classes (p .windows) i (d .by-row n) (d .there)) (d .enough))
+        (λ n. at-slot s classes (p .windows) i (d .by-row n) short) (d .enough))
 
     abbrev class : Class
     class = coded (getD classes i 0)

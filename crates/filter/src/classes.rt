@@ -5,25 +5,10 @@ ghost use Prim.Native.Nat.{_≤_};
 ghost use lib.ListN.{length, take};
 ghost use Rattle.rule.specs.Ranges.{classOf};
 ghost use Rattle.settings.specs.Refusals.{limit};
-ghost use Rattle.requests.specs.Request.{range, paired};
-ghost use Rattle.least.specs.Codes.{coded, decoded};
-use least::EITHER;
-use least::OVER;
+ghost use Rattle.requests.specs.Request.{paired};
+ghost use Rattle.least.specs.Codes.{decoded};
 use least::UNDER;
-use rule::over;
-
-// The class of one slot's range.
-fn class_of(k: i32, lowest: i32, highest: i32) -> u8
-    ensures { λ r. ⌜ coded r ≡ classOf k (range lowest highest) ⌝ }
-{
-    if over(k, lowest) {
-        return OVER;
-    }
-    if over(k, highest) {
-        return EITHER;
-    }
-    UNDER
-}
+use least::class_of;
 
 // The classes of all slots.
 pub(crate) fn classify(k: i32, lowest: &[i32], highest: &[i32]) -> [u8; 64]

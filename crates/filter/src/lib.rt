@@ -50,7 +50,7 @@ pub fn filter(
     }
 }
 
-// The same for a request that is not refused.
+// What the filter answers and writes for a request that is not refused.
 fn plan(settings: Settings, lowest: &mut [i32], highest: &mut [i32], marks: &mut [u8]) -> Answer
     requires { ⌜ WellFormed (asked settings (now lowest) (now highest) (now marks)) ⌝ }
     ensures { λ r. ⌜ Keeps

@@ -8,9 +8,16 @@ use lib.Dec.{eqb}
 use lib.ListN.{take, getD, List·getD-map}
 use lib.Seq.{getD-take}
 use Rattle.facts.proofs.Rules.{rules}
-use Rattle.rule.specs.Ranges.{under-only, over-only, either, allows}
+use Rattle.rule.specs.Ranges.{Class, under-only, over-only, either, allows}
 use Rattle.rule.specs.Rule.{goesWith}
-use Rattle.least.specs.Codes.{coded, decoded}
+use Rattle.least.specs.Codes.{code, coded, decoded}
+
+-- a byte says the class that it was made for
+pub code-back : (c : Class) → coded (code c) ≡ c
+unfolding coded
+code-back under-only = refl
+code-back over-only = refl
+code-back either = refl
 
 module _ (m : ℕ) where
   pub codes-under : m ≡ 0 → coded m ≡ under-only

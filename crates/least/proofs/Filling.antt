@@ -16,8 +16,9 @@ use Rattle.settings.specs.declared.Settings.{Settings}
 use Rattle.settings.specs.Refusals.{limit}
 use Rattle.least.proofs.Coding.{can-be-uncovered, cannot-be-uncovered}
 use Rattle.requests.proofs.Exact.{fewer}
+use Rattle.requests.proofs.Least.{fewest-is}
 use Rattle.least.proofs.Scanning.{from-slot}
-use Rattle.requests.specs.Best.{spend, dearer, best, fewest}
+use Rattle.requests.specs.Best.{spend, dearer, best}
 use Rattle.least.specs.Codes.{coded, decoded}
 use Rattle.least.specs.Rows.{Behind, leastFrom, onwardFrom, firstBelow}
 use Rattle.requests.specs.Solution.{sentinel}
@@ -40,11 +41,11 @@ module _ (s : Settings) (classes : List ℕ) where
 
   -- any other opens a window
   module _ (behind : List ℕ) (i w : ℕ) (b : Behind s cs w behind) where
-    pub opened : (later : ℕ) → i < length classes → getD classes i 0 ≡ 1 → later ≡ spend sentinel w (onwardFrom s cs (i + 1)) →
-        min sentinel (1 + min (getD behind (i + 1) 0) later) ≡ least i w
+    pub opened : (later : ℕ) → i < length classes → i < limit → getD classes i 0 ≡ 1 →
+        later ≡ spend sentinel w (onwardFrom s cs (i + 1)) → min sentinel (1 + min (getD behind (i + 1) 0) later) ≡ least i w
     unfolding best
-    opened later e o is =
-        let behind-is = b .counts (i + 1) (omega (arith, e, length-map classes coded)) in
+    opened later e l o is =
+        let behind-is = b .counts (i + 1) (omega arith) in
         rw (from-slot classes i e, cannot-be-uncovered (getD classes i 0) o, is, behind-is) (by w)
       where
         by : (w : ℕ) → min sentinel (1 + min (spend sentinel w (least (i + 1))) (spend sentinel w (onwardFrom s cs (i + 1))))
@@ -56,7 +57,7 @@ module _ (s : Settings) (classes : List ℕ) where
   pub record RowFrom (behind row : List ℕ) (i : ℕ) : Type 0 where
     pub inside : i ≤ length classes
     pub wide : length row ≡ 65
-    pub counts : (w : ℕ) → Behind s cs w behind → (j : ℕ) → i ≤ j → j ≤ length classes → getD row j 0 ≡ least j w
+    pub counts : (w : ℕ) → Behind s cs w behind → (j : ℕ) → i ≤ j → j ≤ limit → getD row j 0 ≡ least j w
 
   module _ {behind : List ℕ} where
     pub last : length classes ≤ limit → RowFrom behind (replicate 65 0) (length classes)
@@ -79,7 +80,7 @@ module _ (s : Settings) (classes : List ℕ) where
           inside = omega (arith, f .inside);
           wide = length-set row i v ∙ f .wide;
           counts = λ w b j p q.
-              let here = is w b (f .counts w b (i + 1) (le-refl _) (f .inside)) in
+              let here = is w b (f .counts w b (i + 1) (le-refl _) (omega (arith, e, f .inside))) in
               ⊎-elim
               (λ s. rw (← s) (getD-set-same row i v 0 (omega (arith, e, f .inside, f .wide)) ∙ here))
               (λ l. getD-set-other row i j v 0 (omega (arith, l)) ∙ f .counts w b j (omega (arith, l)) q)
@@ -90,11 +91,11 @@ module _ (s : Settings) (classes : List ℕ) where
         Behind s cs (w + 1) row
     whole e f w b =
         rw add-one
-        (record { wide = f .wide; counts = λ j l. f .counts w b j (omega arith) (omega (arith, l, length-map classes coded)) })
+        (record { wide = f .wide; counts = λ j l. f .counts w b j (omega arith) l })
 
   -- what a row tells at a slot
-  pub at-slot : {row : List ℕ} (w i : ℕ) → Behind s cs (w + 1) row → i ≤ length classes → getD row i 0 ≡ least i w
-  at-slot w i b e = (rw add-one at b) .counts i (omega (arith, e, length-map classes coded))
+  pub at-slot : {row : List ℕ} (w i : ℕ) → Behind s cs (w + 1) row → i ≤ limit → getD row i 0 ≡ least i w
+  at-slot w i b e = (rw add-one at b) .counts i e
 
   abbrev c : ℕ
   c = s .covered .most
@@ -130,28 +131,10 @@ module _ (s : Settings) (classes : List ℕ) where
           absurd (omega (arith, dear, p .enough l, fewer sentinel (s .len - 1) (s .h) cs (p .within)))
 
   -- which is the count that `fewest` finds
-  fewest-is : (d w v : ℕ) → w ≤ v → v ≤ w + d → ((u : ℕ) → w ≤ u → u < v → c < covers u) →
-      (v < w + d → covers v ≤ c) → v ≡ fewest sentinel (s .len - 1) (s .h) cs c w d
-  unfolding fewest
-  fewest-is zero w v p q f g = omega arith
-  fewest-is (suc d) w v p q f g = by (leb (covers w) c) refl (eq-or-lt-of-le p) (fewest-is d (suc w) v)
-    where
-      by : (b : Bool) → leb (covers w) c ≡ b → (w ≡ v) ⊎ (w < v) →
-          (suc w ≤ v → v ≤ suc w + d → ((u : ℕ) → suc w ≤ u → u < v → c < covers u) →
-          (v < suc w + d → covers v ≤ c) → v ≡ fewest sentinel (s .len - 1) (s .h) cs c (suc w) d) →
-          v ≡ cond b w (fewest sentinel (s .len - 1) (s .h) cs c (suc w) d)
-      by true e (inl same) later = sym same
-      by true e (inr l) later =
-          let cheap : covers w ≤ c = leb-true _ _ e in
-          absurd (omega (arith, cheap, f w (le-refl w) l))
-      by false e (inl same) later =
-          let dear : c < covers w = leb-false _ _ e in
-          absurd (omega (arith, dear, subst (λ u. covers u ≤ c) (sym same) (g (omega arith))))
-      by false e (inr l) later = later l (omega arith) (λ u a b. f u (omega arith) b) (λ a. g (omega arith))
-
   all-passed : (w first : ℕ) → Passed w first → first ≡ firstBelow s cs w
   all-passed w first p =
-      fewest-is w 0 first (omega arith) (omega (arith, p .within)) (λ u _ l. p .dear u l) (λ l. p .enough (omega arith))
+      fewest-is sentinel (s .len - 1) (s .h) cs c w 0 first (omega arith) (omega (arith, p .within))
+      (λ u _ l. p .dear u l) (λ l. p .enough (omega arith))
 
   -- the row of v windows, and the window counts below v
   pub record Rowed (v : ℕ) (behind : List ℕ) (first : ℕ) : Type 0 where
@@ -163,7 +146,7 @@ module _ (s : Settings) (classes : List ℕ) where
       record {
         row = record {
           wide = length-replicate {A = ℕ} 65 sentinel;
-          counts = λ i l. getD-replicate 65 i sentinel 0 (omega (arith, l, length-map classes coded));
+          counts = λ i l. getD-replicate 65 i sentinel 0 (omega arith);
         };
         passed = none-passed;
       }

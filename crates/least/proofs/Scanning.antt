@@ -11,6 +11,7 @@ use lib.ListN.{length, drop, getD, drop-of-length-le, length-map, List·getD-map
 use Rattle.facts.proofs.Rules.{uncons, either-way}
 use Rattle.rule.specs.Ranges.{Class, allows}
 use Rattle.settings.specs.declared.Settings.{Settings}
+use Rattle.settings.specs.Refusals.{limit}
 use Rattle.requests.proofs.Exact.{spend-capped, onward-le, no-room}
 use Rattle.requests.specs.Best.{spend, dearer, best, onward, after}
 use Rattle.least.specs.Codes.{coded, decoded}
@@ -126,8 +127,9 @@ module _ (classes behind : List ℕ) (from slots bridges : ℕ) where
       }
 
   module _ (g : Going) (i : ℕ) (scan : Scan g i) where
-    pub turns : i < length classes → 1 ≤ g .slots → Scan (wentOn g (coded (getD classes i 0)) (getD behind (i + 1) 0)) (i + 1)
-    turns e r =
+    pub turns : i < length classes → i < limit → 1 ≤ g .slots →
+        Scan (wentOn g (coded (getD classes i 0)) (getD behind (i + 1) 0)) (i + 1)
+    turns e l r =
         let over = allows (coded (getD classes i 0)) 2 in
         let (one-more, no-more) = gone-small over (g .slots) (g .bridges) (g .covered) (g .least) (getD behind (i + 1) 0) in
         record {
@@ -135,7 +137,7 @@ module _ (classes behind : List ℕ) (from slots bridges : ℕ) where
           short = omega (arith, one-more, scan .short);
           small = omega (arith, no-more, scan .small);
           same = λ s w b.
-              rw (b .counts (i + 1) (omega (arith, e, length-map classes coded)))
+              rw (b .counts (i + 1) (omega arith))
               (on-total (s .len - 1) (s .h) w g _ _ r ∙ rw (← from-slot classes i e) (scan .same s w b));
         }
 

@@ -5,6 +5,12 @@ use mathlib.Core.List.{List, map}
 use lib.Dec.{eqb}
 use Rattle.rule.specs.Ranges.{Class, under-only, over-only, either}
 
+-- the byte of a class
+abbrev pub code : Class → ℕ
+code under-only = 0
+code over-only = 1
+code either = 2
+
 -- 0 is under only, 1 over only, and any other byte open
 unfoldable pub coded : ℕ → Class
 coded m = cond (eqb m 0) under-only (cond (eqb m 1) over-only either)

@@ -7,6 +7,7 @@ use lib.Dec.{eqb}
 use lib.ListN.{length, drop, getD}
 use Rattle.rule.specs.Ranges.{Class, allows}
 use Rattle.settings.specs.declared.Settings.{Settings}
+use Rattle.settings.specs.Refusals.{limit}
 use Rattle.requests.specs.Best.{spend, best, onward, fewest}
 use Rattle.requests.specs.Solution.{sentinel}
 use Rattle.least.specs.declared.Going.{Going}
@@ -24,10 +25,10 @@ abbrev pub firstBelow : Settings → List Class → (w : ℕ) → ℕ
 firstBelow s cs w = fewest sentinel (s .len - 1) (s .h) cs (s .covered .most) 0 w
 
 -- The row holds what comes behind a window, where at most w windows are left with it: for each slot the least covered count of
--- the slots from there on, with one window fewer. Where w is 0 there is no plan.
+-- the slots from there on, with one window fewer. Past the last slot that is 0. Where w is 0 there is no plan.
 pub record Behind (s : Settings) (cs : List Class) (w : ℕ) (row : List ℕ) : Type 0 where
   pub wide : length row ≡ 65
-  pub counts : (i : ℕ) → i ≤ length cs → getD row i 0 ≡ spend sentinel w (leastFrom s cs i)
+  pub counts : (i : ℕ) → i ≤ limit → getD row i 0 ≡ spend sentinel w (leastFrom s cs i)
 
 -- A window one slot on, with the least covered count of what comes behind that slot. One that can be over is taken as over, and the
 -- window may close there; any other is a bridge, where one is left.

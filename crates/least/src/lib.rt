@@ -1,5 +1,5 @@
-// Least counts of slots, given by what each can be: rows of the least covered counts of the slots from each one on, one row for
-// each number of windows. What they are is `best` (crates/requests/specs/Best.antt).
+// Least counts of slots, given by what each can be: rows of the least covered counts of the slots from each one on, one
+// row for each number of windows. What they are is `best` (crates/requests/specs/Best.antt).
 ghost use mathlib.Core.Bool.{cond};
 ghost use mathlib.Core.Path.{_≡_};
 ghost use lib.Dec.{leb};
@@ -13,18 +13,18 @@ ghost use Rattle.requests.specs.Solution.{sentinel, cheapest, sparsest};
 use settings::LIMIT;
 use settings::Settings;
 
-// A slot, as a byte: it can be under only, over only, or is open.
-pub const UNDER: u8 = 0;
+mod codes;
 
-pub const OVER: u8 = 1;
+pub use codes::EITHER;
+pub use codes::OVER;
+pub use codes::UNDER;
+pub use codes::class_of;
 
-pub const EITHER: u8 = 2;
+// The covered count that stands for "no plan". Counts are capped there, so that they are the least only below it.
+pub const NO_PLAN: u16 = 65535;
 
-// The covered count that stands for "no plan".
-const NO_PLAN: u16 = 65535;
-
-// A window that goes on: the slots and bridges left to it, the slots that it has covered so far, and the least covered count
-// found up to here, with what comes behind it.
+// A window that goes on: the slots and bridges left to it, the slots that it has covered so far, and the least covered
+// count found up to here, with what comes behind it.
 pub struct Going {
     pub slots: u16,
     pub bridges: u16,
@@ -32,13 +32,19 @@ pub struct Going {
     pub least: u16,
 }
 
-// A row, and the first of the window counts so far with which the covered maximum is kept.
+// What comes after a window, where at most w windows are left with it. At each slot's place `behind` has the least
+// covered count of the slots from there on, with at most w - 1 windows, or NO_PLAN; at every place past the last slot
+// it has 0. Where w is 0 it has NO_PLAN at all places. `first` is the first window count below w with which the covered
+// maximum is kept, or w; a maximum of NO_PLAN is always kept.
 pub struct Filled {
     pub behind: [u16; 65],
     pub first: u16,
 }
 
-// The two least counts, each by itself.
+// Two counts, each by itself (`LeastCounts` in crates/requests/specs/Solution.antt). `covered` is the least covered
+// count within the window maximum, or NO_PLAN where no plan covers fewer slots than that. `windows` is the least window
+// count within both maximums; where there is no plan it is the window maximum, and where the covered maximum is NO_PLAN
+// it is 0.
 pub struct Least {
     pub windows: u16,
     pub covered: u16,
@@ -63,8 +69,8 @@ fn smaller(a: u16, b: u16) -> u16
     a
 }
 
-// One slot on. A slot that can be over is taken as over, and the window may close behind it; any other is a bridge, and without
-// one left the window goes no further.
+// One slot on. A slot that can be over is taken as over, and the window may close behind it; any other is a bridge, and
+// without one left the window goes no further.
 fn go_on(going: Going, class: u8, behind: u16) -> Going
     requires { ⌜ (1 ≤ going .slots) × (going .covered < sentinel) ⌝ }
     ensures { λ r. ⌜ r ≡ wentOn going (coded class) behind ⌝ }
@@ -205,7 +211,8 @@ fn fitting(n: usize) -> usize
     n
 }
 
-// The row of w windows, of the first 64 slots. What its places behind the last slot hold is left open.
+// What comes after a window, of the first 64 slots, as `Filled` says. The settings are not checked: a len of 0 counts
+// as 1.
 pub fn rows(settings: Settings, classes: &[u8], w: u16) -> Filled
     ensures { λ r. ⌜ Behind settings (decoded (take limit (now (classes .entry)))) w (r .behind)
         × (r .first ≡ firstBelow settings (decoded (take limit (now (classes .entry)))) w) ⌝ }
@@ -214,7 +221,7 @@ pub fn rows(settings: Settings, classes: &[u8], w: u16) -> Filled
     fill(settings, &classes[..n], w)
 }
 
-// Both least counts, of the first 64 slots.
+// Both least counts of the first 64 slots, as `Least` says. The settings are not checked: a len of 0 counts as 1.
 pub fn low(settings: Settings, classes: &[u8]) -> Least
     ensures { λ r. ⌜ (r .windows ≡ sparsest settings (decoded (take limit (now (classes .entry)))))
         × (r .covered ≡ cheapest settings (decoded (take limit (now (classes .entry))))) ⌝ }

@@ -1,5 +1,5 @@
-mod Cases
-mod Decimals
+pub mod Cases
+pub mod Decimals
 mod Fields
 mod Lengths
 mod Signs

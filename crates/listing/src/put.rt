@@ -32,7 +32,7 @@ pub(crate) fn number(n: u64, end: u8, out: &mut [u8], place: usize) -> usize
     byte(end, out, behind)
 }
 
-// The same with a minus sign where x is negative.
+// A signed number, with a minus sign where it is negative, and the byte that ends its field.
 pub(crate) fn signed(x: i32, end: u8, out: &mut [u8], place: usize) -> usize
     ensures { λ r. ⌜ Written (Text·signed x ++ (end ∷ [])) place (now (out .entry)) (now (out .exit)) r ⌝ }
 {

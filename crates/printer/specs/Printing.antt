@@ -10,6 +10,10 @@ use Rattle.listing.specs.Text.{text, Written}
 use Rattle.requests.specs.Promise.{refuses as Promise·refuses, Outcome, Keeps}
 use Rattle.requests.specs.Request.{asked, numbered}
 
+-- of a file on standard input at most so many bytes are held
+abbrev pub held : ℕ
+held = 4097
+
 -- the whole text of an outcome that P holds of stands in the buffer, and `behind` is where it ends
 pub record Printed (P : Outcome → Type 0) (before after : List ℕ) (behind : ℕ) : Type 0 where
   pub outcome : Outcome

@@ -4,23 +4,41 @@ ghost use Prim.Native.Nat.{_≤_};
 ghost use lib.ListN.{length};
 ghost use Rattle.requests.specs.Request.{asked};
 ghost use Rattle.listing.specs.Text.{room};
-ghost use Rattle.printer.specs.Printing.{Printed, OfFile, loads, marks as Printing·marks};
+ghost use Rattle.printer.specs.Printing.{held, Printed, OfFile, loads, marks as Printing·marks};
 ghost use Rattle.requests.specs.Promise.{Keeps};
 use card::Reading;
 use card::read;
 use filter::filter;
 use libc::STDIN_FILENO;
 use libc::STDOUT_FILENO;
-use listing::ROOM;
+use listing::buffer;
 use settings::Settings;
 
+// How many bytes of a file are held: one more than it may have, so that a longer one is refused.
+const HELD: usize = 4097;
+
+// What was read of a file: the first bytes, `size` of them.
+pub struct Input {
+    pub bytes: [u8; HELD],
+    pub size: usize,
+}
+
 fn main() {
-    // One byte more than a file may have, so that a longer one is refused.
-    let mut file = [0u8; 4097];
-    let size = io::read_full(STDIN_FILENO, &mut file);
-    let mut text = [0u8; ROOM];
+    let input = read_input();
+    let size = input.size;
+    let file = input.bytes;
+    let mut text = buffer();
     let length = print(&file[..size], &mut text);
     io::write_all(STDOUT_FILENO, &text[..length]);
+}
+
+// Reads standard input up to its end, or as much as is held.
+fn read_input() -> Input
+    ensures { λ r. ⌜ (length (r .bytes) ≡ held) × (r .size ≤ held) ⌝ }
+{
+    let mut bytes = [0; HELD];
+    let size = io::read_full(STDIN_FILENO, &mut bytes);
+    Input { bytes, size }
 }
 
 // The text for a file.
@@ -34,7 +52,7 @@ fn print(file: &[u8], text: &mut [u8]) -> usize
     print_with(file, &mut lowest, &mut highest, &mut marks, text)
 }
 
-// The same with slices of 64 places to work in.
+// The text for a file, with slices of 64 places to work in.
 fn print_with(
     file: &[u8],
     lowest: &mut [i32],

@@ -1,5 +1,5 @@
 -- The four published definitions are corners of the rule.
-use Prim.Native.Nat.{ℕ, suc, _-_, _≤_}
+use Prim.Native.Nat.{ℕ, _-_, _≤_}
 use native.Mathlib.Nat.{le-refl}
 use native.Mathlib.Omega.{arith}
 use mathlib.Core.List.{List}
@@ -21,23 +21,11 @@ module _ (X : List ℤ) (yc len h : ℕ) (k : ℤ) (zc : ℕ) (S : List Run) (o 
   pub recount : {yc′ zc′ : ℕ} → length S ≤ yc′ → sum size S ≤ zc′ → Obeys k len h yc′ zc′ X S
   recount number summed = record { set = o .set; cover = o .cover; kept = o .kept; number = number; summed = summed }
 
-  -- disjoint windows have no more slots than there are: they are drawn by marks, with a len of 1 or more
+  -- disjoint windows have no more slots than there are: they are drawn by marks
   no-more : sum size S ≤ length X
   no-more =
-      let wide : Obeys k (suc len) h yc zc X S = record {
-        set = o .set;
-        cover = o .cover;
-        kept = each-to
-            (Window k len h X)
-            (Window k (suc len) h X)
-            (λ s w. record { begins = w .begins; ends = w .ends; slots = omega (arith, w .slots); spare = w .spare })
-            S
-            (o .kept);
-        number = o .number;
-        summed = o .summed;
-      } in
-      let (ms, e, to, fro, ws, cs) = drawn k (suc len) h yc zc X S (omega arith) wide in
-      omega (arith, cs, covered-le ms, as-long (carries k) (suc len) h X ms e)
+      let (ms, e, to, fro, ws, cs) = drawn k len h yc zc X S o in
+      omega (arith, cs, covered-le ms, as-long (carries k) len h X ms e)
 
   -- so a covered maximum of n has no force
   pub without-force : Obeys k len h yc (length X) X S

@@ -5,14 +5,15 @@ use native.Mathlib.Omega.{arith}
 use mathlib.Core.Bool.{Bool, true, false}
 use mathlib.Core.List.{List, _∷_}
 use mathlib.Core.Logic.{_⊎_, inl, inr}
-use mathlib.Core.Path.{_≡_, refl, sym, ap, subst}
+use mathlib.Core.Path.{_≡_, refl, sym, ap, _∙_, subst}
 use lib.IntN.{ℤ}
 use lib.ListN.{length, take}
 use lib.Signed.{_<ℤ_, clashℤ}
 use Rattle.rule.proofs.Loads.{carried-over, carried-under}
+use Rattle.rule.proofs.NoWindows.{no-windows, at-any-length}
 use Rattle.rule.proofs.Plan.{State, out, on, PlanBy, done, skip, opens, close, more as longer, bridges as bridged, legal→plan}
 use Rattle.rule.specs.Rule.{goesWith, rest, count, carries, legal, windows, covered}
-use Rattle.published.proofs.Sets.{Within, Apart, each-to}
+use Rattle.published.proofs.Sets.{Within, Apart, each-to, each-of-none}
 use Rattle.published.proofs.Slots.{From, none, more, from, from-drop, unders-over, unders-under}
 use Rattle.published.specs.Published.{Run, Holds, size, Each, Some, sum, Disjoint, load, unders, Window, Obeys, runs}
 
@@ -209,6 +210,20 @@ module _ (k : ℤ) (room h : ℕ) (X : List ℤ) where
       by l e (inl c) = absurd (omega arith)
       by l e (inr c) = c
 
-pub draws : (k : ℤ) (len h : ℕ) (X : List ℤ) (ms : List ℕ) → 1 ≤ len → legal k len h X ms ≡ true → Draws k len h X ms
-draws k zero h X ms one e = absurd (omega arith)
-draws k (suc room) h X ms one e = drawing k room h X (legal→plan (carries k) room h X ms e)
+-- with a len of 0 there is no window
+pub draws : (k : ℤ) (len h : ℕ) (X : List ℤ) (ms : List ℕ) → legal k len h X ms ≡ true → Draws k len h X ms
+draws k zero h X ms e =
+    let none = no-windows (carries k) h X ms e in
+    let one = at-any-length (carries k) h X ms 0 1 none e in
+    let (o, number, total) = drawing k 0 h X (legal→plan (carries k) 0 h X ms one) in (
+      record {
+        set = o .set;
+        cover = o .cover;
+        kept = each-of-none (Window k 0 h X) (runs 0 ms) (number ∙ none);
+        number = o .number;
+        summed = o .summed;
+      },
+      number,
+      total,
+    )
+draws k (suc room) h X ms e = drawing k room h X (legal→plan (carries k) room h X ms e)

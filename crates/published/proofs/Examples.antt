@@ -1,4 +1,4 @@
--- Two worked examples of the papers, as instances.
+-- What specs/Examples.antt states, proved.
 use Prim.Native.Nat.{ℕ, _+_, _≤_, _<_}
 use native.Mathlib.Omega.{arith}
 use mathlib.Core.List.{List, [], _∷_, map}
@@ -9,30 +9,21 @@ use Rattle.rule.specs.Rule.{over, goesWith, agrees, follows, ordered, rest, dra
 use Rattle.published.proofs.Corners.{without-force, focus, weighted}
 use Rattle.published.proofs.Draws.{draws}
 use Rattle.published.proofs.Sets.{_∈_, Within, Apart, each, into, which, meet, fewer}
+use Rattle.published.specs.Examples.{run, X, Examples}
 use Rattle.published.specs.Published.{Run, Holds, size, load, Focus, WeightedFocus, Sequences, runs}
 
--- [i, .., j]
-abbrev run : ℕ → ℕ → Run
-run i j = record { first = i; last = j }
-
--- 000, Examples 2 and 4 (Table 1): WeightedFocus(X, [2, 2], 5, 0, [7, 7]) by the set of [0, .., 3] and [5, .., 7]
-pub table-1 : WeightedFocus (map pos (1 ∷ 1 ∷ 1 ∷ 1 ∷ 0 ∷ 1 ∷ 1 ∷ 1 ∷ [])) 2 5 (pos 0) 7 (run 0 3 ∷ run 5 7 ∷ [])
+table-1 : WeightedFocus (map pos (1 ∷ 1 ∷ 1 ∷ 1 ∷ 0 ∷ 1 ∷ 1 ∷ 1 ∷ [])) 2 5 (pos 0) 7 (run 0 3 ∷ run 5 7 ∷ [])
 unfolding over goesWith agrees follows ordered rest drawn count keeps every legalBy windows covered runs
-table-1 = weighted _ _ _ _ _ _ .1 (draws (pos 0) 5 0 _ (1 ∷ 2 ∷ 2 ∷ 2 ∷ 0 ∷ 1 ∷ 2 ∷ 2 ∷ []) (omega arith) refl .0)
+table-1 = weighted _ _ _ _ _ _ .1 (draws (pos 0) 5 0 _ (1 ∷ 2 ∷ 2 ∷ 2 ∷ 0 ∷ 1 ∷ 2 ∷ 2 ∷ []) refl .0)
 
--- 002, Example 2: X = ⟨1, 3, 1, 0, 1, 0⟩
-abbrev X : List ℤ
-X = map pos (1 ∷ 3 ∷ 1 ∷ 0 ∷ 1 ∷ 0 ∷ [])
-
--- Focus(X, 2, 6, 0) is satisfied, by ⟨x0, x1, x2⟩ and ⟨x4⟩
-pub satisfied : Focus X 2 6 (pos 0) (run 0 2 ∷ run 4 4 ∷ [])
+satisfied : Focus X 2 6 (pos 0) (run 0 2 ∷ run 4 4 ∷ [])
 unfolding over goesWith agrees follows ordered rest drawn count keeps every legalBy windows covered runs
 satisfied =
-    let o = draws (pos 0) 6 0 X (1 ∷ 2 ∷ 2 ∷ 0 ∷ 1 ∷ 0 ∷ []) (omega arith) refl .0 in
+    let o = draws (pos 0) 6 0 X (1 ∷ 2 ∷ 2 ∷ 0 ∷ 1 ∷ 0 ∷ []) refl .0 in
     focus _ _ _ _ _ .1 (without-force _ _ _ _ _ _ _ o)
 
--- Focus(X, 2, 2, 0) is violated: no two of x0, x2 and x4 are in one sequence of at most 2
-pub violated : (S : List Run) → Focus X 2 2 (pos 0) S → ⊥
+-- no two of x0, x2 and x4 are in one sequence of at most 2
+violated : (S : List Run) → Focus X 2 2 (pos 0) S → ⊥
 violated S d =
     let (a, am, ha) = at 0 (omega arith) (ltZ-yes tt) in
     let (b, bm, hb) = at 2 (omega arith) (ltZ-yes tt) in
@@ -58,3 +49,6 @@ violated S d =
         let e = meet l (d .set .1) tm um hl hl′ in
         let ku = subst (λ u. Holds j u) (sym e) hu in
         omega (arith, ht, ku, each (λ s. size s ≤ 2) (d .c3) tm)
+
+pub examples : Examples
+examples = record { table-1 = table-1; satisfied = satisfied; violated = violated }

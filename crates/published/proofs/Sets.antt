@@ -31,6 +31,10 @@ all P (s ∷ S) f = (f s here, all P S (λ t m. f t (there m)))
 pub each-to : (P Q : Run → Type 0) → ((s : Run) → P s → Q s) → (S : List Run) → Each P S → Each Q S
 each-to P Q f S e = all Q S (λ s m. f s (each P e m))
 
+pub each-of-none : (P : Run → Type 0) (S : List Run) → length S ≡ 0 → Each P S
+each-of-none P [] e = tt
+each-of-none P (s ∷ S) e = absurd (omega arith)
+
 pub some : (P : Run → Type 0) {s : Run} {S : List Run} → s ∈ S → P s → Some P S
 some P here p = inl p
 some P (there m) p = inr (some P m p)

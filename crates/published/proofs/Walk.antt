@@ -12,6 +12,7 @@ use lib.ListN.{length, take}
 use lib.Signed.{_<ℤ_, _≤ℤ_, clashℤ}
 use Rattle.facts.proofs.Integers.{side}
 use Rattle.rule.proofs.Loads.{carry-over, carry-under}
+use Rattle.rule.proofs.NoWindows.{at-any-length}
 use Rattle.rule.proofs.Plan.{out, on, PlanBy, done, skip, opens, close, more as longer, bridges as bridged, plan→legal}
 use Rattle.rule.specs.Rule.{goesWith, rest, carries, legal, windows, covered}
 use Rattle.published.proofs.Draws.{fresh, draws}
@@ -208,11 +209,22 @@ module _ (k : ℤ) (room h yc zc : ℕ) (X : List ℤ) (S : List Run) (rule : Ob
   all-drawn =
       let ms = found .marks in
       let e = plan→legal (carries k) room h X ms (found .plan) in
-      let (obeys, number, total) = draws k (suc room) h X ms (omega arith) e in
+      let (obeys, number, total) = draws k (suc room) h X ms e in
       let (to, fro) = whole (runs 0 ms) obeys (found .members) in
       let (lengths, sums) = sets (length X) (runs 0 ms) S (obeys .set) (rule .set) to fro in
       (ms, e, to, fro, sym number ∙ lengths, sym total ∙ sums)
 
-pub drawn : (k : ℤ) (len h yc zc : ℕ) (X : List ℤ) (S : List Run) → 1 ≤ len → Obeys k len h yc zc X S → DrawnBy k len h X S
-drawn k zero h yc zc X S one rule = absurd (omega arith)
-drawn k (suc room) h yc zc X S one rule = all-drawn k room h yc zc X S rule
+-- with a len of 0 there is no window, as each has a slot
+pub drawn : (k : ℤ) (len h yc zc : ℕ) (X : List ℤ) (S : List Run) → Obeys k len h yc zc X S → DrawnBy k len h X S
+drawn k zero h yc zc X [] rule =
+    let one : Obeys k 1 h yc zc X [] = record {
+      set = rule .set;
+      cover = rule .cover;
+      kept = tt;
+      number = rule .number;
+      summed = rule .summed;
+    } in
+    let (ms, e, to, fro, number, total) = all-drawn k 0 h yc zc X [] one in
+    (ms, at-any-length (carries k) h X ms 1 0 number e, to, fro, number, total)
+drawn k zero h yc zc X (s ∷ S) rule = absurd (omega (arith, rule .kept .0 .slots, rule .set .0 .0))
+drawn k (suc room) h yc zc X S rule = all-drawn k room h yc zc X S rule

@@ -130,19 +130,19 @@ pub record Corners (X : List ℤ) (yc len h : ℕ) (k : ℤ) (zc : ℕ) (S : Lis
   pub weighted : WeightedFocus X yc len k zc S ↔ Obeys k len 0 yc zc X S
   pub weightedSpringy : WeightedSpringyFocus X yc len h k zc S ↔ Obeys k len h yc zc X S
 
--- What is proved (proofs/Theorems.antt). Of the side conditions, what relates marks and windows needs 1 ≤ len.
+-- What is proved (proofs/Theorems.antt), with none of the side conditions: a len of 0 leaves no window.
 pub record Theorems : Type 0 where
   pub corners : (X : List ℤ) (yc len h : ℕ) (k : ℤ) (zc : ℕ) (S : List Run) → Corners X yc len h k zc S
   -- legal marks draw windows that obey the rule, as many as there are marks 1, with as many slots as marks other than 0
-  pub draws : (k : ℤ) (len h : ℕ) (X : List ℤ) (ms : List ℕ) → 1 ≤ len → legal k len h X ms ≡ true →
+  pub draws : (k : ℤ) (len h : ℕ) (X : List ℤ) (ms : List ℕ) → legal k len h X ms ≡ true →
       Obeys k len h (windows ms) (covered ms) X (runs 0 ms)
       × (length (runs 0 ms) ≡ windows ms) × (sum size (runs 0 ms) ≡ covered ms)
   -- windows that obey the rule are drawn by legal marks, with no other window and no other count
-  pub drawn : (k : ℤ) (len h w c : ℕ) (X : List ℤ) (S : List Run) → 1 ≤ len → Obeys k len h w c X S →
+  pub drawn : (k : ℤ) (len h w c : ℕ) (X : List ℤ) (S : List Run) → Obeys k len h w c X S →
       (ms : List ℕ) × (legal k len h X ms ≡ true)
       × (runs 0 ms ⊆ S) × (S ⊆ runs 0 ms) × (windows ms ≡ length S) × (covered ms ≡ sum size S)
   -- windows within the maximums exist exactly where the judge says yes to some marks, if it refuses nothing
-  pub exist : (s : Settings) (X : List ℤ) → 1 ≤ s .len →
+  pub exist : (s : Settings) (X : List ℤ) →
       ((S : List Run) × Obeys (s .k) (s .len) (s .h) (s .windows .most) (s .covered .most) X S)
       ↔ ((ms : List ℕ) × (allowed s X ms ≡ true))
   -- marks are legal for ranges exactly when they are legal for what each slot can be: under, over or both

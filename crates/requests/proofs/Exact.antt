@@ -8,8 +8,8 @@ use mathlib.Core.Path.{_≡_, refl}
 use Rattle.facts.proofs.Rules.{at-most}
 use Rattle.rule.proofs.Plan.{State, out, on, PlanBy, done, skip, opens, close, more, bridges, legal→plan, plan→legal}
 use Rattle.rule.specs.Ranges.{Class, under-only, over-only, either, allows}
-use Rattle.rule.specs.Rule.{goesWith, count, legalBy, windows, covered}
-use Rattle.requests.specs.Best.{spend, dearer, best, onward, after}
+use Rattle.rule.specs.Rule.{goesWith, count, windows, covered}
+use Rattle.requests.specs.Best.{Fits, spend, dearer, best, onward, after}
 
 module _ (room h : ℕ) where
   -- some plan with at most w windows covers at most c slots
@@ -18,12 +18,6 @@ module _ (room h : ℕ) where
     pub plan : PlanBy allows room h st cs marks
     pub few : windows marks ≤ w
     pub short : covered marks ≤ c
-
-  -- marks that are legal for classes, with at most w windows and c covered slots
-  pub record Fits (cs : List Class) (w c : ℕ) (ms : List ℕ) : Type 0 where
-    pub in-rule : legalBy allows (suc room) h cs ms ≡ true
-    pub few : windows ms ≤ w
-    pub short : covered ms ≤ c
 
 min-le : {x y x′ y′ : ℕ} → (x ≤ x′) × (y ≤ y′) → min x y ≤ min x′ y′
 min-le e = omega arith
@@ -70,7 +64,7 @@ module _ (T room h : ℕ) where
         split-le T (allows c 2) (capped T (min-le (more-room cs e q s))) (spend-le T q λ a b f. capped T (more-room cs e f s .1))),
   )
 
-  best-le : (cs : List Class) (w : ℕ) → best T room h cs w ≤ T
+  pub best-le : (cs : List Class) (w : ℕ) → best T room h cs w ≤ T
   unfolding best
   best-le [] w = omega arith
   best-le (c ∷ cs) w = at-most (allows c 0) _ _ (best-le cs w) (omega arith)

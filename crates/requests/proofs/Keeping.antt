@@ -2,26 +2,23 @@
 use Prim.Native.Nat.{ℕ, _-_, _≤_, _<_}
 use native.Mathlib.Omega.{arith}
 use mathlib.Core.Bool.{Bool, true, false, true≢false}
-use mathlib.Core.List.{List, [], _∷_}
+use mathlib.Core.List.{List, []}
 use mathlib.Core.Option.{Option, none, some, Option·some-ne-none}
-use mathlib.Core.Path.{_≡_, refl, sym, _∙_, subst}
+use mathlib.Core.Path.{_≡_, refl, sym, _∙_}
 use borrow.Author.Tests.{leb-true}
-use lib.IntN.{ℤ}
 use lib.ListN.{length}
-use Rattle.judge.proofs.Allowing.{allowing, saying}
 use Rattle.rule.proofs.Leasts.{same-least}
-use Rattle.rule.proofs.Onward.{as-long}
-use Rattle.settings.proofs.Passing.{Passing, passing, beside}
 use Rattle.rule.specs.Ranges.{Class}
-use Rattle.rule.specs.Rule.{carries, legal, LeastOver}
+use Rattle.rule.specs.Rule.{LeastOver}
 use Rattle.settings.specs.declared.Settings.{Settings}
 use Rattle.requests.proofs.Choices.{from-slots}
+use Rattle.requests.proofs.Judged.{yes-to}
 use Rattle.requests.proofs.Least.{least-windows, least-covered}
 use Rattle.requests.proofs.Narrowing.{along-length, along-at, stays, exact}
-use Rattle.requests.proofs.Requests.{Formed, formed, FitsAt, small, width, chosen-slots, possible→fits, fits→possible, plan→fits, fits→plan}
-use Rattle.requests.specs.Promise.{refuses, Outcome, lowestAfter, highestAfter, Narrowed, Drawn, Keeps}
-use Rattle.requests.specs.Request.{Request, slots, at, Refused, refused, WellFormed, PlanOf}
-use Rattle.requests.specs.Solution.{sentinel, classes, cheapest, sparsest, possible, loss}
+use Rattle.requests.proofs.Requests.{Formed, formed, small, width, chosen-slots, possible→fits, fits→possible, plan→fits, fits→plan}
+use Rattle.requests.specs.Promise.{refuses, Outcome, lowestAfter, highestAfter, Narrowed, YesFor, Keeps}
+use Rattle.requests.specs.Request.{Request, slots, at, paired, Refused, refused, WellFormed, PlanOf}
+use Rattle.requests.specs.Solution.{sentinel, classes, cheapest, sparsest, FitsAt, possible, loss}
 use Rattle.requests.specs.Solution.{found, unaltered, outcomeBy, outcome}
 
 module _ (r : Request) (good : Formed r) where
@@ -51,10 +48,7 @@ module _ (r : Request) (good : Formed r) where
     wide : length (found r ms .highest) ≡ slots r
     wide = along-length (λ i hi. highestAfter (s .k) (loss s cs i) hi) (r .highest) ∙ width r good
 
-    marked : (xs : List ℤ) → legal (s .k) (s .len) (s .h) xs ms ≡ true → length xs ≡ slots r → length ms ≡ slots r
-    marked xs e n = as-long (carries (s .k)) (s .len) (s .h) xs ms e ∙ n
-
-    drawn : Drawn r (found r ms)
+    drawn : YesFor s (paired (found r ms .lowest) (found r ms .highest)) ms
     drawn =
         let (xs, c, e) = plan .in-rule in
         let n = chosen-slots r good xs c in
@@ -66,10 +60,7 @@ module _ (r : Request) (good : Formed r) where
               (λ i h.
               let there : i < slots r = omega (arith, h, n) in
               narrowed i there .exact (at xs i) .1 (stays r good plan i there));
-          yes =
-              saying s xs ms
-              (passing .1 (subst (λ n. Passing n (length ms ∷ []) s) (sym n) (beside (marked xs e n, tt) (good .pass))))
-              (allowing .1 (record { in-rule = e; windows-fit = plan .windows-fit; covered-fit = plan .covered-fit }));
+          yes = yes-to r good ms plan;
         }
 
     enough : cheapest s cs ≤ s .covered .most
@@ -77,7 +68,7 @@ module _ (r : Request) (good : Formed r) where
     enough = leb-true _ _ e
 
     -- a least count over the plans by their classes
-    by-plans : {count : List ℕ → ℕ} {v : ℕ} → LeastOver (FitsAt r cs) count v → LeastOver (PlanOf r) count v
+    by-plans : {count : List ℕ → ℕ} {v : ℕ} → LeastOver (FitsAt s cs) count v → LeastOver (PlanOf r) count v
     by-plans = same-least (λ ms f. fits→plan r good f) (λ ms p. plan→fits r good p)
 
     kept : WellFormed r → Keeps r (found r ms)

@@ -1,17 +1,19 @@
 -- The two least counts of classes, and when a plan exists, from `best`.
-use Prim.Native.Nat.{ℕ, zero, suc, _+_, _≤_, _<_}
-use native.Mathlib.Nat.{le-antisymm, le-refl, eq-or-lt-of-le}
+use Prim.Native.Nat.{ℕ, zero, suc, _+_, _-_, _≤_, _<_}
+use native.Mathlib.Nat.{le-antisymm, le-refl, eq-or-lt-of-le, lt-of-not-le}
 use native.Mathlib.Omega.{arith}
 use mathlib.Core.Bool.{Bool, true, false, cond}
 use mathlib.Core.List.{List}
-use mathlib.Core.Logic.{⊎-elim}
+use mathlib.Core.Logic.{_⊎_, inl, inr, ⊎-elim}
 use mathlib.Core.Path.{_≡_, refl, sym, subst}
 use borrow.Author.Tests.{leb-true, leb-false}
 use lib.Dec.{leb}
 use Rattle.rule.specs.Ranges.{Class, allows}
 use Rattle.rule.specs.Rule.{legalBy, windows, covered, LeastOver}
-use Rattle.requests.proofs.Exact.{Fits, at-least, met}
-use Rattle.requests.specs.Best.{best, fewest}
+use Rattle.requests.proofs.Exact.{best-le, at-least, met}
+use Rattle.requests.specs.Best.{Fits, best, fewest}
+use Rattle.requests.specs.Solution.{sentinel, LegalMarks, LeastCounts}
+use Rattle.settings.specs.declared.Settings.{Settings}
 
 module _ (T room h : ℕ) (cs : List Class) where
   -- v is the first of the window counts from w on with which at most c slots are covered
@@ -37,6 +39,26 @@ module _ (T room h : ℕ) (cs : List Class) where
                 ⊎-elim (λ i. absurd (omega (arith, dear, subst (λ v. best T room h cs v ≤ c) (sym i) r))) (λ l. s .first u l r)
                 (eq-or-lt-of-le p);
           }
+
+  -- v is what `fewest` finds where the counts before it cover too much and it does not, unless it is the last
+  pub fewest-is : (c d w v : ℕ) → w ≤ v → v ≤ w + d → ((u : ℕ) → w ≤ u → u < v → c < best T room h cs u) →
+      (v < w + d → best T room h cs v ≤ c) → v ≡ fewest T room h cs c w d
+  unfolding fewest
+  fewest-is c zero w v p q f g = omega arith
+  fewest-is c (suc d) w v p q f g = by (leb (best T room h cs w) c) refl (eq-or-lt-of-le p) (fewest-is c d (suc w) v)
+    where
+      by : (b : Bool) → leb (best T room h cs w) c ≡ b → (w ≡ v) ⊎ (w < v) →
+          (suc w ≤ v → v ≤ suc w + d → ((u : ℕ) → suc w ≤ u → u < v → c < best T room h cs u) →
+          (v < suc w + d → best T room h cs v ≤ c) → v ≡ fewest T room h cs c (suc w) d) →
+          v ≡ cond b w (fewest T room h cs c (suc w) d)
+      by true e (inl same) later = sym same
+      by true e (inr l) later =
+          let cheap : best T room h cs w ≤ c = leb-true _ _ e in
+          absurd (omega (arith, cheap, f w (le-refl w) l))
+      by false e (inl same) later =
+          let dear : c < best T room h cs w = leb-false _ _ e in
+          absurd (omega (arith, dear, subst (λ u. best T room h cs u ≤ c) (sym same) (g (omega arith))))
+      by false e (inr l) later = later l (omega arith) (λ u a b. f u (omega arith) b) (λ a. g (omega arith))
 
   module _ (w c : ℕ) where
     pub exists→enough : {ms : List ℕ} → Fits room h cs w c ms → best T room h cs w ≤ c
@@ -77,3 +99,41 @@ module _ (T room h : ℕ) (cs : List Class) where
           by-count f ms e s =
               let g : Fits room h cs (windows ms) c ms = record { in-rule = e; few = le-refl _; short = s } in
               f .first (windows ms) (omega arith) (omega (arith, at-least T room h g, s))
+
+-- what the two numbers of settings and classes are
+module _ (s : Settings) (cs : List Class) where
+  abbrev room : ℕ
+  room = s .len - 1
+
+  abbrev w : ℕ
+  w = s .windows .most
+
+  abbrev c : ℕ
+  c = s .covered .most
+
+  covers : (ms : List ℕ) → LegalMarks s cs ms → windows ms ≤ w → best sentinel room (s .h) cs w ≤ covered ms
+  covers ms e few = at-least sentinel room (s .h) (record { in-rule = e; few = few; short = le-refl _ })
+
+  pub least-counts : LeastCounts s cs
+  least-counts =
+      record {
+        covers = covers;
+        covered = λ below.
+            let (ms, f) = met sentinel room (s .h) cs w below in
+            record {
+              met = (ms, (f .in-rule, f .few), le-antisymm (f .short) (covers ms (f .in-rule) (f .few)));
+              least = λ ms (e, few). covers ms e few;
+            };
+        windows = λ below ms f. least-windows sentinel room (s .h) cs w c below (exists→enough sentinel room (s .h) cs w c f);
+        none = λ below no.
+            sym
+            (fewest-is sentinel room (s .h) cs c w 0 w (omega arith) (omega arith)
+            (λ u _ less. lt-of-not-le λ enough.
+            let (ms, f) = enough→exists sentinel room (s .h) cs u c below enough in
+            no ms (record { in-rule = f .in-rule; few = omega (arith, f .few, less); short = f .short }))
+            (λ less. absurd (omega arith)));
+        at-sentinel = λ above.
+            sym
+            (fewest-is sentinel room (s .h) cs c w 0 0 (omega arith) (omega arith) (λ u _ less. absurd (omega arith))
+            (λ _. omega (arith, best-le sentinel room (s .h) cs 0, above)));
+      }

@@ -3,6 +3,7 @@ pub mod Cases
 pub mod Choices
 pub mod Demand3
 pub mod Exact
+pub mod Judged
 pub mod Keeping
 pub mod Least
 pub mod Loosening

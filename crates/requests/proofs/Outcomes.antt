@@ -9,7 +9,7 @@ use lib.ListN.{length}
 use Rattle.settings.proofs.Passing.{from-21}
 use Rattle.settings.specs.declared.CountRange.{CountRange}
 use Rattle.requests.proofs.Keeping.{answered}
-use Rattle.requests.specs.Promise.{Answer, refuses, no-plan, planned, Outcome, Unaltered, Planned, NoPlan, Answers, Keeps}
+use Rattle.requests.specs.Promise.{Answer, refuses, no-plan, planned, Outcome, SaysPlanned, Unaltered, Planned, NoPlan, Answers, Keeps}
 use Rattle.requests.specs.Request.{Request, slots, ranges, Refused, numbered, at-slot, crossed, behind, refused, WellFormed}
 use Rattle.requests.specs.Request.{PlanOf, LeastWindows, LeastCovered}
 
@@ -68,6 +68,9 @@ module _ (r : Request) (o : Outcome) (keeps : Keeps r o) where
       by : IsPlanned r o ⊎ ((o .answer ≡ no-plan) × NoPlan r) → IsPlanned r o
       by (inl i) = i
       by (inr (e, n)) = absurd (n ms p)
+
+  pub says-planned : WellFormed r → (ms : List ℕ) → PlanOf r ms → SaysPlanned o
+  says-planned w ms p = let i = planned-where w ms p in (i .windows, i .covered, i .answer)
 
   pub says-none : WellFormed r → NoPlan r → o .answer ≡ no-plan
   says-none w n = by (planned-or-none w)

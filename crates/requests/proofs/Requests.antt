@@ -19,10 +19,10 @@ use Rattle.rule.specs.Ranges.{Range, Proper, ChosenIn, LegalFor, Class, under-o
 use Rattle.rule.specs.Rule.{over, legal, legalBy, windows}
 use Rattle.settings.specs.declared.Settings.{Settings}
 use Rattle.requests.proofs.Choices.{paired-length, paired-set, in-slots, pin, unpin, replaced-proper, replaced-class}
-use Rattle.requests.proofs.Exact.{Fits}
 use Rattle.requests.proofs.Least.{exists→enough, enough→exists}
+use Rattle.requests.specs.Best.{Fits}
 use Rattle.requests.specs.Request.{range, Request, slots, ranges, at, paired, crossed, behind, refused, WellFormed, PlanOf, UnlimitedPlanOf, LeftAt}
-use Rattle.requests.specs.Solution.{sentinel, classes, possible}
+use Rattle.requests.specs.Solution.{sentinel, classes, FitsAt, possible}
 
 -- what is known of a request that is not refused
 pub record Formed (r : Request) : Type 0 where
@@ -75,10 +75,6 @@ module _ (r : Request) where
   abbrev s : Settings
   s = r .settings
 
-  -- marks that are plans of slots of these classes
-  abbrev pub FitsAt : List Class → List ℕ → Type 0
-  FitsAt cs = Fits (s .len - 1) (s .h) cs (s .windows .most) (s .covered .most)
-
   module _ (formed : Formed r) where
     legal-by : (rs : List Range) (ms : List ℕ) → Proper rs →
         LegalFor (s .k) (s .len) (s .h) rs ms ↔ (legalBy allows (suc (s .len - 1)) (s .h) (map (classOf (s .k)) rs) ms ≡ true)
@@ -99,19 +95,19 @@ module _ (r : Request) where
     pub small : s .covered .most < sentinel
     small = omega (arith, formed .pass .covered .1, formed .pass .slots .1)
 
-    pub possible→fits : (cs : List Class) → possible s cs ≡ true → (ms : List ℕ) × FitsAt cs ms
+    pub possible→fits : (cs : List Class) → possible s cs ≡ true → (ms : List ℕ) × FitsAt s cs ms
     unfolding possible
     possible→fits cs e = enough→exists sentinel (s .len - 1) (s .h) cs _ _ small (leb-true _ _ e)
 
-    pub fits→possible : {cs : List Class} {ms : List ℕ} → FitsAt cs ms → possible s cs ≡ true
+    pub fits→possible : {cs : List Class} {ms : List ℕ} → FitsAt s cs ms → possible s cs ≡ true
     unfolding possible
     fits→possible {cs} f = le-leb _ _ (exists→enough sentinel (s .len - 1) (s .h) cs _ _ f)
 
-    pub plan→fits : {ms : List ℕ} → PlanOf r ms → FitsAt (classes r) ms
+    pub plan→fits : {ms : List ℕ} → PlanOf r ms → FitsAt s (classes r) ms
     plan→fits {ms} p =
         record { in-rule = legal-by (ranges r) ms (formed .proper) .0 (p .in-rule); few = p .windows-fit; short = p .covered-fit }
 
-    pub fits→plan : {ms : List ℕ} → FitsAt (classes r) ms → PlanOf r ms
+    pub fits→plan : {ms : List ℕ} → FitsAt s (classes r) ms → PlanOf r ms
     fits→plan {ms} f =
         record { in-rule = legal-by (ranges r) ms (formed .proper) .1 (f .in-rule); windows-fit = f .few; covered-fit = f .short }
 
@@ -149,7 +145,7 @@ module _ (r : Request) where
           let chosen : ChosenIn pinned (l .loads) =
           subst (λ x. ChosenIn (paired (set (r .lowest) i x) (set (r .highest) i x)) (l .loads)) (l .occurs)
           (pin (r .lowest) (r .highest) (l .loads) i (l .chosen)) in
-          let f : FitsAt pinnedClasses (l .marks) = record {
+          let f : FitsAt s pinnedClasses (l .marks) = record {
             in-rule = fits-pinned (l .marks) .0 (l .loads, chosen, l .in-rule);
             few = l .plan .windows-fit;
             short = l .plan .covered-fit;

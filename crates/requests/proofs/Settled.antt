@@ -18,7 +18,7 @@ use Rattle.rule.proofs.Tally.{windows-le}
 use Rattle.rule.specs.Ranges.{under-only, over-only, classOf}
 use Rattle.rule.specs.Rule.{carries, windows, LeastOver}
 use Rattle.requests.proofs.Choices.{paired-set, replaced-proper, replaced-class}
-use Rattle.requests.proofs.Outcomes.{planned-so, none-so, says-none, planned-where, least-windows}
+use Rattle.requests.proofs.Outcomes.{planned-so, none-so, says-none, says-planned, planned-where, least-windows}
 use Rattle.requests.proofs.Requests.{Formed, formed, class-slots, chosen-slots, unlimited→fits, fits→unlimited}
 use Rattle.requests.proofs.Settling.{settled-under, settled-over}
 use Rattle.requests.specs.Demand3.{LeastUnlimited, Settles, unlimited, Counts, SettlesAnswer}
@@ -139,6 +139,7 @@ module _ (r : Request) (good : Formed r) (i : ℕ) (slot : Open r i) where
     settles : Settles r q
     settles =
         record {
+          well = formed .1 q-formed;
           plan = λ ms p. let (ms′, p′, few) = step ms p in (ms′, p′);
           count = λ v a.
               let (ms, p, e) = a .met in
@@ -180,12 +181,15 @@ module _ (r : Request) (good : Formed r) (i : ℕ) (slot : Open r i) where
 
 pub counting : (r : Request) → Formed r → (o : Outcome) → Keeps (unlimited r) o → Counts r o
 counting r good o keeps =
+    let well = formed .1 (unlimited-formed r good) in
     record {
+      well = well;
+      some = λ ms p. says-planned (unlimited r) o keeps well ms (from-unlimited r good ms p);
       number = λ w c e.
           let a = planned-so (unlimited r) o keeps w c e .windows in
           subst (LeastUnlimited r) (omega (arith, a .minimum)) (least-unlimited r good (a .least));
       none = (
         (λ e ms p. none-so (unlimited r) o keeps e ms (from-unlimited r good ms p)),
-        λ n. says-none (unlimited r) o keeps (formed .1 (unlimited-formed r good)) (λ ms p. n ms (to-unlimited r good ms p)),
+        λ n. says-none (unlimited r) o keeps well (λ ms p. n ms (to-unlimited r good ms p)),
       );
     }

@@ -12,7 +12,8 @@ use Rattle.rule.proofs.Plan.{State, out, on, PlanBy, done, skip, opens, close, 
 use Rattle.rule.proofs.Tally.{covered-le}
 use Rattle.rule.specs.Ranges.{Class, under-only, over-only, allows}
 use Rattle.rule.specs.Rule.{goesWith, count, windows, covered}
-use Rattle.requests.proofs.Exact.{Found, Fits}
+use Rattle.requests.proofs.Exact.{Found}
+use Rattle.requests.specs.Best.{Fits}
 
 module _ (room h : ℕ) where
   roomier : {c : Bool} {r b r′ b′ : ℕ} {cs : List Class} {ms : List ℕ} →

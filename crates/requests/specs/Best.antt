@@ -3,11 +3,19 @@
 --
 -- A slot is given by its class. A window has a first slot and at most `room` more, with at most h bridges. T stands for "no plan":
 -- counts are capped there.
-use Prim.Native.Nat.{ℕ, zero, suc, min}
-use mathlib.Core.Bool.{cond}
+use Prim.Native.Nat.{ℕ, zero, suc, _≤_, min}
+use mathlib.Core.Bool.{true, cond}
 use mathlib.Core.List.{List, [], _∷_}
+use mathlib.Core.Path.{_≡_}
 use lib.Dec.{leb}
 use Rattle.rule.specs.Ranges.{Class, allows}
+use Rattle.rule.specs.Rule.{legalBy, windows, covered}
+
+-- marks that are legal for slots of these classes, with at most w windows and c covered slots
+pub record Fits (room h : ℕ) (cs : List Class) (w c : ℕ) (ms : List ℕ) : Type 0 where
+  pub in-rule : legalBy allows (suc room) h cs ms ≡ true
+  pub few : windows ms ≤ w
+  pub short : covered ms ≤ c
 
 -- one of n is used up, or there is none to use
 abbrev pub spend : (T n : ℕ) → (ℕ → ℕ) → ℕ

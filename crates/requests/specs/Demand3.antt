@@ -8,7 +8,7 @@ use lib.IntN.{ℤ}
 use lib.Signed.{_≤ℤ_}
 use Rattle.rule.specs.Rule.{windows, LeastOver}
 use Rattle.settings.specs.declared.CountRange.{CountRange}
-use Rattle.requests.specs.Promise.{no-plan, planned, Outcome, Held, Keeps}
+use Rattle.requests.specs.Promise.{no-plan, planned, Outcome, SaysPlanned, Held, Keeps}
 use Rattle.requests.specs.Request.{Request, slots, at, WellFormed, PlanOf, UnlimitedPlanOf, LeftAt, LeastWindows, LeastCovered}
 use Rattle.requests.specs.Request.{Open, settledUnder, settledOver}
 
@@ -50,8 +50,10 @@ pub record LoosensAnswer (t : Request) (first second : Outcome) (w c : CountRang
 abbrev pub LeastUnlimited : Request → ℕ → Type 0
 LeastUnlimited r = LeastOver (UnlimitedPlanOf r) windows
 
--- One slot of r is settled: if a plan exists, one exists still, and the least window count is at most one higher.
+-- One slot of r is settled, which leaves it well formed: if a plan exists, one exists still, and the least window count
+-- is at most one higher.
 pub record Settles (r settled : Request) : Type 0 where
+  pub well : WellFormed settled
   pub plan : (ms : List ℕ) → UnlimitedPlanOf r ms → (ms′ : List ℕ) × UnlimitedPlanOf settled ms′
   pub count : (v : ℕ) → LeastUnlimited r v → (w : ℕ) × LeastUnlimited settled w × (w ≤ suc v)
 
@@ -71,8 +73,11 @@ unlimited r =
       marks = r .marks;
     }
 
--- Given the window range 0 to n, the window minimum handed back is that least window count, and "no plan" is said if there is none.
+-- Given the window range 0 to n, which leaves r well formed, the answer is "planned" if such a plan exists, with that
+-- least window count as its window minimum, and "no plan" if there is none.
 pub record Counts (r : Request) (o : Outcome) : Type 0 where
+  pub well : WellFormed (unlimited r)
+  pub some : (ms : List ℕ) → UnlimitedPlanOf r ms → SaysPlanned o
   pub number : (w c : CountRange) → o .answer ≡ planned w c → LeastUnlimited r (w .least)
   pub none : (o .answer ≡ no-plan) ↔ ((ms : List ℕ) → UnlimitedPlanOf r ms → ⊥)
 

@@ -9,9 +9,10 @@ use lib.IntN.{ℤ, sucℤ}
 use lib.ListN.{length}
 use lib.Signed.{ltZ, _≤ℤ_}
 use Rattle.judge.specs.Judgment.{says, judgment}
-use Rattle.rule.specs.Ranges.{ChosenIn}
+use Rattle.rule.specs.Ranges.{Range, ChosenIn}
 use Rattle.rule.specs.Rule.{windows, covered, LeastOver}
 use Rattle.settings.specs.declared.CountRange.{CountRange}
+use Rattle.settings.specs.declared.Settings.{Settings}
 use Rattle.requests.specs.Request.{Request, slots, paired, at, Refused, refused, WellFormed, PlanOf, LeftAt}
 
 pub data Answer : Type 0 where
@@ -25,6 +26,10 @@ pub record Outcome : Type 0 where
   pub lowest : List ℤ
   pub highest : List ℤ
   pub marks : List ℕ
+
+-- the answer is "planned", with some count ranges
+abbrev pub SaysPlanned : Outcome → Type 0
+SaysPlanned o = (windows covered : CountRange) × (o .answer ≡ planned windows covered)
 
 -- load x is in the range that slot i holds then
 abbrev pub Held : Outcome → (i : ℕ) (x : ℤ) → Type 0
@@ -66,11 +71,11 @@ pub record Narrowed (r : Request) (o : Outcome) (i : ℕ) : Type 0 where
   pub high : at (o .highest) i ≡ highestAfter (r .settings .k) loss (at (r .highest) i)
   pub exact : (x : ℤ) → Held o i x ↔ LeftAt r i x
 
--- the marks hold a legal plan within both maximums: for some loads in the narrowed ranges the judge says yes to it
-pub record Drawn (r : Request) (o : Outcome) : Type 0 where
+-- for some loads in the ranges the judge says yes to the marks, with their counts
+pub record YesFor (s : Settings) (ranges : List Range) (marks : List ℕ) : Type 0 where
   pub loads : List ℤ
-  pub chosen : ChosenIn (paired (o .lowest) (o .highest)) loads
-  pub yes : judgment (r .settings) loads (o .marks) ≡ says true (windows (o .marks)) (covered (o .marks))
+  pub chosen : ChosenIn ranges loads
+  pub yes : judgment s loads marks ≡ says true (windows marks) (covered marks)
 
 pub record Planned (r : Request) (w c : CountRange) (o : Outcome) : Type 0 where
   pub windows : Raised r windows (r .settings .windows) w
@@ -78,7 +83,8 @@ pub record Planned (r : Request) (w c : CountRange) (o : Outcome) : Type 0 where
   pub lowest-length : length (o .lowest) ≡ slots r
   pub highest-length : length (o .highest) ≡ slots r
   pub narrowed : (i : ℕ) → i < slots r → Narrowed r o i
-  pub drawn : Drawn r o
+  -- the marks hold a legal plan within both maximums, for loads in the narrowed ranges
+  pub drawn : YesFor (r .settings) (paired (o .lowest) (o .highest)) (o .marks)
 
 abbrev pub NoPlan : Request → Type 0
 NoPlan r = (ms : List ℕ) → PlanOf r ms → ⊥

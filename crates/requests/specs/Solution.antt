@@ -1,16 +1,18 @@
 -- What the filter hands back for a plan of its choice, computed by `best`. The crate least and private functions of the filter
 -- promise it; the filter's promise does not rest on it (proofs/Keeping.antt says that it is kept).
-use Prim.Native.Nat.{ℕ, suc, _-_, max}
+use Prim.Native.Nat.{ℕ, suc, _-_, _≤_, _<_, max}
 use mathlib.Core.Bool.{Bool, true, false, cond}
 use mathlib.Core.List.{List, [], _∷_, map}
 use mathlib.Core.Option.{Option, none, some}
+use mathlib.Core.Path.{_≡_}
 use lib.Dec.{leb}
 use lib.IntN.{ℤ}
 use lib.ListN.{getD, set}
-use Rattle.rule.specs.Ranges.{Class, under-only, over-only, either, classOf}
+use Rattle.rule.specs.Ranges.{Class, under-only, over-only, either, classOf, allows}
+use Rattle.rule.specs.Rule.{legalBy, windows, covered, LeastOver}
 use Rattle.settings.specs.declared.CountRange.{CountRange}
 use Rattle.settings.specs.declared.Settings.{Settings}
-use Rattle.requests.specs.Best.{best, fewest}
+use Rattle.requests.specs.Best.{Fits, best, fewest}
 use Rattle.requests.specs.Promise.{Answer, refuses, no-plan, planned, Outcome, Loss, nothing, under-part, over-part, lowestAfter, highestAfter}
 use Rattle.requests.specs.Request.{Request, ranges, Refused, refused}
 
@@ -21,15 +23,37 @@ sentinel = 65535
 abbrev pub classes : Request → List Class
 classes r = map (classOf (r .settings .k)) (ranges r)
 
--- the least covered count of slots of these classes, within the window maximum
+-- the least covered count of slots of these classes, within the window maximum, where it is below the sentinel
 abbrev pub cheapest : Settings → List Class → ℕ
 cheapest s cs = best sentinel (s .len - 1) (s .h) cs (s .windows .most)
 
--- the least window count of such slots, within the covered maximum
+-- the least window count of such slots within both maximums, where there is a plan and the covered maximum is below the
+-- sentinel
 abbrev pub sparsest : Settings → List Class → ℕ
 sparsest s cs = fewest sentinel (s .len - 1) (s .h) cs (s .covered .most) 0 (s .windows .most)
 
--- some plan of slots of these classes is within both maximums
+-- the marks that are legal for slots of these classes. A len of 0 counts as 1
+abbrev pub LegalMarks : Settings → List Class → List ℕ → Type 0
+LegalMarks s cs ms = legalBy allows (suc (s .len - 1)) (s .h) cs ms ≡ true
+
+-- such marks within both maximums
+abbrev pub FitsAt : Settings → List Class → List ℕ → Type 0
+FitsAt s cs = Fits (s .len - 1) (s .h) cs (s .windows .most) (s .covered .most)
+
+-- What the two numbers are for all settings and classes (proofs/Least.antt).
+pub record LeastCounts (s : Settings) (cs : List Class) : Type 0 where
+  -- no legal marks within the window maximum cover fewer slots, and below the sentinel some cover as many
+  pub covers : (ms : List ℕ) → LegalMarks s cs ms → windows ms ≤ s .windows .most → cheapest s cs ≤ covered ms
+  pub covered : cheapest s cs < sentinel →
+      LeastOver (λ ms. LegalMarks s cs ms × (windows ms ≤ s .windows .most)) covered (cheapest s cs)
+  -- with a covered maximum below the sentinel: the least window count where a plan exists, else the window maximum
+  pub windows : s .covered .most < sentinel → (ms : List ℕ) → FitsAt s cs ms →
+      LeastOver (FitsAt s cs) windows (sparsest s cs)
+  pub none : s .covered .most < sentinel → ((ms : List ℕ) → FitsAt s cs ms → ⊥) → sparsest s cs ≡ s .windows .most
+  -- with any other, "no plan" counts as one, so that no window is needed
+  pub at-sentinel : sentinel ≤ s .covered .most → sparsest s cs ≡ 0
+
+-- some plan of slots of these classes is within both maximums, where the covered maximum is below the sentinel
 unfoldable pub possible : Settings → List Class → Bool
 possible s cs = leb (cheapest s cs) (s .covered .most)
 

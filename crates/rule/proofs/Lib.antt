@@ -3,6 +3,7 @@ pub mod Classes
 pub mod Leasts
 pub mod Loads
 pub mod Loosening
+pub mod NoWindows
 pub mod Onward
 pub mod Plan
 pub mod Ranges

@@ -23,7 +23,8 @@ impl<'a> View<'a> {
     }
 }
 
-// The same through a view made for one look-up: a caller has no struct with a reference, and needs no proof by hand.
+// What look_up answers, through a view made for one look-up: a caller has no struct with a reference, and needs no
+// proof by hand.
 pub fn viewed(file: &[u8], slot: usize) -> Found
     ensures { λ r. ⌜ shown r ≡ looking slot (now (file .entry)) ⌝ }
 {

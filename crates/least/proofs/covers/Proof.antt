@@ -39,7 +39,7 @@ returns-2 c =
     let args = c .before .before .before .before .before .before .before .args in
     λ w b is.
     rw (c .together .ensures, c .before .smaller .ensures)
-    (opened (args .settings) (args .classes .now) (args .behind .now) (args .i) w b _ (omega arith) (omega arith)
+    (opened (args .settings) (args .classes .now) (args .behind .now) (args .i) w b _ (omega arith) (omega arith) (omega arith)
     (c .before .before .before .onward .ensures w b))
 
 pub covers-spec : {M : Type 1} → statement M

@@ -46,7 +46,7 @@ loop-less c = search needs
 loop-again : tie.Need-loop-again Inv-loop μ-loop
 loop-again c =
     let loop = c .before .before .before .before .before .before .loop in
-    rw (c .go-on .ensures) (turns _ _ _ _ _ (loop .going) (loop .i) (loop .inv) (omega arith) (omega (arith, ltb-true)))
+    rw (c .go-on .ensures) (turns _ _ _ _ _ (loop .going) (loop .i) (loop .inv) (omega arith) (omega arith) (omega (arith, ltb-true)))
 
 returns : tie.Need-returns Inv-loop μ-loop
 returns c =

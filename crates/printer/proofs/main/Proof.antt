@@ -1,4 +1,4 @@
--- `printer::main` is safe and ends: the text is within its buffer.
+-- `printer::main` is safe and ends: what was read and the text are within their buffers.
 use native.Mathlib.Omega.{arith}
 use mathlib.Core.Path.{sym}
 use borrow.Author.Needs.{needs}
@@ -6,17 +6,19 @@ use lib.Seq.{length-take-le}
 use Rattle.printer.proofs.main.Statement.{statement}
 use Rattle.printer.proofs.main.Tie as tie
 
-slice-aggregate-read-full : tie.Need-slice-aggregate-read-full
-slice-aggregate-read-full c = search needs
+read-input-requires : tie.Need-read-input-requires
+read-input-requires c κs = search needs
 
-read-full-requires : tie.Need-read-full-requires
-read-full-requires c κs = search needs
+buffer-requires : tie.Need-buffer-requires
+buffer-requires c κs = search needs
 
 array-share-prefix-file : tie.Need-array-share-prefix-file
 array-share-prefix-file c = search needs
 
 slice-aggregate-print : tie.Need-slice-aggregate-print
-slice-aggregate-print c = search needs
+slice-aggregate-print c =
+    let read = c .before .before .before .read-input in
+    sym (length-take-le (read .result .size) (read .result .bytes) (omega (arith, read .ensures)))
 
 slice-aggregate-print-2 : tie.Need-slice-aggregate-print-2
 slice-aggregate-print-2 c = search needs
@@ -44,8 +46,8 @@ pub main-spec : {M : Type 1} → statement M
 main-spec =
     tie.close
     (tie.spec
-    slice-aggregate-read-full
-    read-full-requires
+    read-input-requires
+    buffer-requires
     array-share-prefix-file
     slice-aggregate-print
     slice-aggregate-print-2

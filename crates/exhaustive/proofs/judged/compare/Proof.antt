@@ -5,10 +5,10 @@ use Rattle.exhaustive.proofs.judged.compare.Statement.{statement}
 use Rattle.exhaustive.proofs.judged.compare.Tie as tie
 
 abbrev Inv-loop : tie.InvT-loop
-Inv-loop n number request strings tally₀ string₀ tally string = string ≤ strings
+Inv-loop n number request loads strings tally₀ string₀ tally string = string ≤ strings
 
 abbrev μ-loop : tie.MeasureT-loop
-μ-loop n number request strings tally₀ string₀ tally string = strings - string
+μ-loop n number request loads strings tally₀ string₀ tally string = strings - string
 
 numbered-requires : tie.Need-numbered-requires Inv-loop μ-loop
 numbered-requires c κs = search needs
@@ -16,17 +16,14 @@ numbered-requires c κs = search needs
 strings-of-requires : tie.Need-strings-of-requires Inv-loop μ-loop
 strings-of-requires c κs = search needs
 
-none-requires : tie.Need-none-requires Inv-loop μ-loop
-none-requires c κs = search needs
-
 loop-holds : tie.Need-loop-holds Inv-loop μ-loop
 loop-holds c = search needs
 
-compare-one-requires : tie.Need-compare-one-requires Inv-loop μ-loop
-compare-one-requires c κs = search needs
+bytes-of-requires : tie.Need-bytes-of-requires Inv-loop μ-loop
+bytes-of-requires c κs = search needs
 
-and-requires : tie.Need-and-requires Inv-loop μ-loop
-and-requires c κs = search needs
+compare-plan-requires : tie.Need-compare-plan-requires Inv-loop μ-loop
+compare-plan-requires c κs = search needs
 
 add-string : tie.Need-add-string Inv-loop μ-loop
 add-string c = search needs
@@ -48,10 +45,9 @@ compare-spec =
     μ-loop
     numbered-requires
     strings-of-requires
-    none-requires
     loop-holds
-    compare-one-requires
-    and-requires
+    bytes-of-requires
+    compare-plan-requires
     add-string
     loop-less
     loop-again

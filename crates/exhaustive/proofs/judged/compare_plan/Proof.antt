@@ -21,20 +21,14 @@ slice-aggregate-judge-2 c = sym (length-take-le _ _ (omega arith))
 judge-requires : tie.Need-judge-requires
 judge-requires c κs = search needs
 
-is-plan-for-requires : tie.Need-is-plan-for-requires
-is-plan-for-requires c κs = search needs
-
-array-share-prefix-marks-2 : tie.Need-array-share-prefix-marks-2
-array-share-prefix-marks-2 c = search needs
-
-slice-aggregate-agrees : tie.Need-slice-aggregate-agrees
-slice-aggregate-agrees c = sym (length-take-le _ _ (omega arith))
+is-plan-requires : tie.Need-is-plan-requires
+is-plan-requires c κs = search needs
 
 agrees-requires : tie.Need-agrees-requires
 agrees-requires c κs = search needs
 
-one-requires : tie.Need-one-requires
-one-requires c κs = search needs
+with-requires : tie.Need-with-requires
+with-requires c κs = search needs
 
 returns : tie.Need-returns
 returns c = search needs
@@ -48,9 +42,7 @@ compare-plan-spec =
     array-share-prefix-marks
     slice-aggregate-judge-2
     judge-requires
-    is-plan-for-requires
-    array-share-prefix-marks-2
-    slice-aggregate-agrees
+    is-plan-requires
     agrees-requires
-    one-requires
+    with-requires
     returns)

@@ -21,8 +21,8 @@ mul-moved-to c = search needs
 array-copy-out-moved-to : tie.Need-array-copy-out-moved-to Inv-loop μ-loop
 array-copy-out-moved-to c = search needs
 
-some-load-requires : tie.Need-some-load-requires Inv-loop μ-loop
-some-load-requires c κs = search needs
+load-requires : tie.Need-load-requires Inv-loop μ-loop
+load-requires c κs = search needs
 
 moved-to-requires : tie.Need-moved-to-requires Inv-loop μ-loop
 moved-to-requires c κs = search needs
@@ -57,7 +57,7 @@ moved-spec =
     loop-holds
     mul-moved-to
     array-copy-out-moved-to
-    some-load-requires
+    load-requires
     moved-to-requires
     mul-now
     array-set-from-now

@@ -1,32 +1,29 @@
--- `exhaustive::settled::settle_each` is safe and ends: it counts up to n.
+-- `exhaustive::settled::settle_each` is safe and ends: it counts up to the number of settlings.
 use Prim.Native.Nat.{_≤_, _-_}
 use borrow.Author.Needs.{needs}
 use Rattle.exhaustive.proofs.settled.settle_each.Statement.{statement}
 use Rattle.exhaustive.proofs.settled.settle_each.Tie as tie
 
 abbrev Inv-loop : tie.InvT-loop
-Inv-loop request before n tally₀ i₀ tally i = i ≤ n
+Inv-loop request n outcome settlings tally₀ i₀ tally i = i ≤ settlings
 
 abbrev μ-loop : tie.MeasureT-loop
-μ-loop request before n tally₀ i₀ tally i = n - i
+μ-loop request n outcome settlings tally₀ i₀ tally i = settlings - i
 
 ask-requires : tie.Need-ask-requires Inv-loop μ-loop
 ask-requires c κs = search needs
 
-slots-requires : tie.Need-slots-requires Inv-loop μ-loop
-slots-requires c κs = search needs
-
-none-requires : tie.Need-none-requires Inv-loop μ-loop
-none-requires c κs = search needs
+mul-settlings : tie.Need-mul-settlings Inv-loop μ-loop
+mul-settlings c = search needs
 
 loop-holds : tie.Need-loop-holds Inv-loop μ-loop
 loop-holds c = search needs
 
+cast-settle : tie.Need-cast-settle Inv-loop μ-loop
+cast-settle c = search needs
+
 settle-requires : tie.Need-settle-requires Inv-loop μ-loop
 settle-requires c κs = search needs
-
-and-requires : tie.Need-and-requires Inv-loop μ-loop
-and-requires c κs = search needs
 
 add-i : tie.Need-add-i Inv-loop μ-loop
 add-i c = search needs
@@ -47,11 +44,10 @@ settle-each-spec =
     Inv-loop
     μ-loop
     ask-requires
-    slots-requires
-    none-requires
+    mul-settlings
     loop-holds
+    cast-settle
     settle-requires
-    and-requires
     add-i
     loop-less
     loop-again

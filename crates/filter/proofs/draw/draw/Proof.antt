@@ -33,12 +33,12 @@ shared-slice-read-next c = search needs
 next-requires : tie.Need-next-requires Inv-loop μ-loop
 next-requires c κs =
     let loop = c .before .before .before .loop in
-    steps _ _ _ _ _ _ (loop .inv) (omega arith) _ (closes _ _ _ _ _ _ (loop .inv) (c .before .close .ensures)) refl .able
+    steps _ _ _ _ _ _ (loop .inv) (omega arith) _ (closes _ _ _ _ _ _ (loop .inv) (omega arith) (c .before .close .ensures)) refl .able
 
 row-for-requires : tie.Need-row-for-requires Inv-loop μ-loop
 row-for-requires c κs =
     let loop = c .before .before .before .before .loop in
-    let shut = closes _ _ _ _ _ _ (loop .inv) (c .before .before .close .ensures) in
+    let shut = closes _ _ _ _ _ _ (loop .inv) (omega arith) (c .before .before .close .ensures) in
     let step = steps _ _ _ _ _ _ (loop .inv) (omega arith) _ shut (c .next .ensures) in
     omega (arith, step .windows-left, shut .windows-same, loop .inv .few)
 
@@ -54,7 +54,7 @@ loop-less c = omega (arith, c .before .before .before .before .before .loop .inv
 loop-again : tie.Need-loop-again Inv-loop μ-loop
 loop-again c =
     let loop = c .before .before .before .before .before .loop in
-    let shut = closes _ _ _ _ _ _ (loop .inv) (c .before .before .before .close .ensures) in
+    let shut = closes _ _ _ _ _ _ (loop .inv) (omega arith) (c .before .before .before .close .ensures) in
     let step = steps _ _ _ _ _ _ (loop .inv) (omega arith) _ shut (c .before .next .ensures) in
     let (wide, opened, same) = c .row-for .ensures in
     drawn-on _ _ _ _ _ _ (loop .inv) (omega arith) _ shut step wide opened same

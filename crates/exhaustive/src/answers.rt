@@ -1,0 +1,99 @@
+// What the filter answers, in numbers, and what it gives small requests.
+ghost use Prim.Native.Nat.{_≤_};
+use crate::samples::Request;
+use filter::Answer;
+use filter::filter;
+use settings::CountRange;
+use settings::Settings;
+
+// What the marks hold before the filter is called.
+pub const UNTOUCHED: u8 = 9;
+
+// The codes of an answer that is no refusal: planned, "no plan", and planned with a maximum that moved.
+pub const PLANNED: u16 = 0;
+
+pub const NO_PLAN: u16 = 1;
+
+const MOVED: u16 = 2;
+
+// A code or a refusal's number, the slot of refusal 31, and both minimums, for which the highest number stands where
+// there is no plan.
+pub struct Outcome {
+    pub code: u16,
+    pub slot: usize,
+    pub windows: u16,
+    pub covered: u16,
+}
+
+// The answer, and what the three slices hold then.
+pub struct Given {
+    pub outcome: Outcome,
+    pub lowest: [i32; 8],
+    pub highest: [i32; 8],
+    pub marks: [u8; 8],
+}
+
+pub fn ask(request: Request, n: u16) -> Given
+    requires { ⌜ n ≤ 8 ⌝ }
+{
+    let lowest = request.lowest;
+    let highest = request.highest;
+    call(request.settings, n as usize, lowest, highest)
+}
+
+fn call(settings: Settings, n: usize, lowest: [i32; 8], highest: [i32; 8]) -> Given
+    requires { ⌜ n ≤ 8 ⌝ }
+{
+    let mut lowest = lowest;
+    let mut highest = highest;
+    let mut marks = [UNTOUCHED; 8];
+    let answer = filter(
+        settings,
+        &mut lowest[..n],
+        &mut highest[..n],
+        &mut marks[..n],
+    );
+    Given {
+        outcome: outcome_of(settings, answer),
+        lowest,
+        highest,
+        marks,
+    }
+}
+
+pub fn outcome_of(settings: Settings, answer: Answer) -> Outcome {
+    match answer {
+        Answer::Planned { windows, covered } => planned(settings, windows, covered),
+        Answer::NoPlan => without(NO_PLAN, 0),
+        Answer::Crossed(slot) => without(31, slot),
+        Answer::Refused(refusal) => without(refusal.number(), 0),
+    }
+}
+
+fn planned(settings: Settings, windows: CountRange, covered: CountRange) -> Outcome {
+    let moved = (windows.most != settings.windows.most) | (covered.most != settings.covered.most);
+    Outcome {
+        code: if moved { MOVED } else { PLANNED },
+        slot: 0,
+        windows: windows.least,
+        covered: covered.least,
+    }
+}
+
+fn without(code: u16, slot: usize) -> Outcome {
+    Outcome {
+        code,
+        slot,
+        windows: 65535,
+        covered: 65535,
+    }
+}
+
+// Whether planned stays planned, with at most so many windows more, and neither is refused.
+pub fn stays(before: Outcome, after: Outcome, more: u32) -> bool
+    requires { ⌜ more ≤ 1 ⌝ }
+{
+    (before.code <= NO_PLAN)
+        & (after.code <= before.code)
+        & (after.windows as u32 <= before.windows as u32 + more)
+}

@@ -1,0 +1,107 @@
+// Calls at and around the limits of document 01's table of refusals, by number. The digits of a number are, from the
+// lowest on: 6 of len, 5 of h, 6 of the slots, 3 of the length of the marks, 16 of the window range, 16 of the covered
+// range, 3 of the length of the highest loads, and 4 of the crossed slots. The first two digits, with 64 slots, make
+// the starts of a watch; the judge has no highest loads and no crossed slots.
+ghost use Prim.Native.Nat.{_≤_, _<_};
+use crate::numbers::less;
+use settings::CountRange;
+use settings::Settings;
+
+pub const STARTS: u32 = 30;
+
+pub const JUDGE_CALLS: u32 = 138240;
+
+pub const FILTER_CALLS: u32 = 1658880;
+
+// The length of the first slice.
+pub fn slots(call: u32) -> u16
+    ensures { λ r. ⌜ r ≤ 65 ⌝ }
+{
+    match call / 30 % 6 {
+        0 => 64,
+        1 => 0,
+        2 => 1,
+        3 => 2,
+        4 => 3,
+        _ => 65,
+    }
+}
+
+pub fn marks_length(call: u32) -> u16
+    ensures { λ r. ⌜ r ≤ 66 ⌝ }
+{
+    other_length(slots(call), call / 180 % 3)
+}
+
+pub fn highest_length(call: u32) -> u16
+    ensures { λ r. ⌜ r ≤ 66 ⌝ }
+{
+    other_length(slots(call), call / 138240 % 3)
+}
+
+fn other_length(n: u16, digit: u32) -> u16
+    requires { ⌜ n ≤ 65 ⌝ }
+    ensures { λ r. ⌜ r ≤ 66 ⌝ }
+{
+    match digit {
+        0 => n,
+        1 => n + 1,
+        _ => less(n, 1),
+    }
+}
+
+// len is around n, h around len - 2, and each count around n.
+pub fn settings(call: u32) -> Settings {
+    let n = slots(call);
+    let len = around(n, call % 6);
+    Settings {
+        k: 0,
+        len,
+        h: around(less(len, 2), call / 6 % 5),
+        windows: counts(n, call / 540 % 16),
+        covered: counts(n, call / 8640 % 16),
+    }
+}
+
+fn counts(n: u16, digit: u32) -> CountRange
+    requires { ⌜ n ≤ 65 ⌝ }
+{
+    CountRange {
+        least: around(n, digit % 4),
+        most: around(n, digit / 4),
+    }
+}
+
+fn around(limit: u16, digit: u32) -> u16
+    requires { ⌜ limit < 65535 ⌝ }
+{
+    match digit {
+        0 => 0,
+        1 => limit,
+        2 => limit + 1,
+        3 => 65535,
+        4 => 1,
+        _ => 2,
+    }
+}
+
+// The first crossed slot, which is the first slot, the last, or one in the middle; or one that no slice has.
+pub fn crossed(call: u32) -> u16
+    ensures { λ r. ⌜ r ≤ 65 ⌝ }
+{
+    match call / 414720 {
+        0 => 65,
+        1 => 0,
+        2 => less(slots(call), 1),
+        _ => slots(call) / 2,
+    }
+}
+
+// The lowest loads, where all highest loads are 0. Beside the slot in the middle the next one is crossed too.
+pub fn lowest(call: u32) -> [i32; 67] {
+    let slot = crossed(call) as usize;
+    let mut loads = [0; 67];
+    loads[slot] = 1;
+    loads[slot + 1] = (call / 1244160) as i32;
+    loads
+}

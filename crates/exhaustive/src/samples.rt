@@ -1,0 +1,63 @@
+// Small requests by number.
+ghost use Prim.Native.Nat.{_≤_};
+use crate::loads::AT;
+use crate::loads::load;
+use crate::loads::spread;
+use crate::loads::threshold;
+use crate::numbers::digit;
+use crate::numbers::next;
+use crate::numbers::others;
+use crate::numbers::pick;
+use settings::CountRange;
+use settings::Settings;
+
+// A request of at most 8 slots, with the row of its threshold.
+pub struct Request {
+    pub settings: Settings,
+    pub threshold: usize,
+    pub lowest: [i32; 8],
+    pub highest: [i32; 8],
+}
+
+// The request of n slots with this number. Its digits are, from the lowest on: len, h, the window maximum and the
+// covered maximum, each up to n, and the class string, whose highest digit is most.
+pub fn numbered(n: u16, most: u16, number: usize) -> Request {
+    let seed = next(next(number));
+    let counts = others(others(number, n), n);
+    let classes = others(others(counts, n), n);
+    let threshold = threshold(classes, seed);
+    let lowest = spread(threshold, classes, most, next(seed), false);
+    let highest = spread(threshold, classes, most, next(seed), true);
+    Request {
+        settings: Settings {
+            k: load(threshold, AT),
+            len: digit(number, n),
+            h: digit(others(number, n), n),
+            windows: up_to(digit(counts, n), next(seed / 2)),
+            covered: up_to(digit(others(counts, n), n), next(seed / 3)),
+        },
+        threshold,
+        lowest,
+        highest,
+    }
+}
+
+// Whether the request of n slots with this number has an accepted len and h.
+pub fn is_accepted(n: u16, number: usize) -> bool
+    requires { ⌜ n ≤ 8 ⌝ }
+{
+    let len = digit(number, n);
+    let h = digit(others(number, n), n);
+    (len > 0) & ((h == 0) | (h + 1 < len))
+}
+
+// Half of the minimums are 0.
+fn up_to(most: u16, seed: usize) -> CountRange {
+    if pick(seed, 1) == 0 {
+        return CountRange { least: 0, most };
+    }
+    CountRange {
+        least: pick(next(seed), most),
+        most,
+    }
+}

@@ -1,0 +1,201 @@
+// Document 01's rule, read window by window, and a search over all strings of marks. No function of the planner is
+// used here.
+ghost use Prim.Native.Nat.{_+_, _≤_, _<_};
+use crate::numbers::smaller;
+use settings::Settings;
+
+// What the plans found so far have: the least counts, each by itself, which are 8 before the first; and a bit for each
+// slot where loads at most k occur, and where loads above k do.
+pub struct Found {
+    pub planned: bool,
+    pub windows: u16,
+    pub covered: u16,
+    pub under: usize,
+    pub over: usize,
+}
+
+// Looks at all strings of n marks, for the first n ranges.
+pub fn search(settings: Settings, n: usize, lowest: [i32; 8], highest: [i32; 8]) -> Found
+    requires { ⌜ n ≤ 8 ⌝ }
+{
+    let mut found = Found {
+        planned: false,
+        windows: 8,
+        covered: 8,
+        under: 0,
+        over: 0,
+    };
+    let strings = 1usize << (2 * n);
+    let mut string = 0;
+    while string < strings {
+        let marks = marks_of(string);
+        if is_plan(settings, n, lowest, highest, marks) {
+            found = with(found, n, marks);
+        }
+        string += 1;
+    }
+    found
+}
+
+// The digits of a number in base 4.
+fn marks_of(string: usize) -> [u8; 8] {
+    [
+        (string % 4) as u8,
+        (string / 4 % 4) as u8,
+        (string / 16 % 4) as u8,
+        (string / 64 % 4) as u8,
+        (string / 256 % 4) as u8,
+        (string / 1024 % 4) as u8,
+        (string / 4096 % 4) as u8,
+        (string / 16384 % 4) as u8,
+    ]
+}
+
+// The findings with one more plan.
+fn with(found: Found, n: usize, marks: [u8; 8]) -> Found
+    requires { ⌜ n ≤ 8 ⌝ }
+{
+    let over = over_slots(n, marks);
+    Found {
+        planned: true,
+        windows: smaller(found.windows, windows(n, marks)),
+        covered: smaller(found.covered, covered(n, marks)),
+        under: found.under | !over,
+        over: found.over | over,
+    }
+}
+
+// A bit for each slot whose mark goes with over loads.
+fn over_slots(n: usize, marks: [u8; 8]) -> usize
+    requires { ⌜ n ≤ 8 ⌝ }
+{
+    let mut slots = 0;
+    let mut i = 0;
+    while i < n {
+        if goes_with_over(marks[i]) {
+            slots = slots | (1 << i);
+        }
+        i += 1;
+    }
+    slots
+}
+
+fn goes_with_over(mark: u8) -> bool {
+    mark == 1 || mark == 2
+}
+
+// Whether the first n marks are legal for the first n ranges, and keep both maximums.
+pub fn is_plan(
+    settings: Settings,
+    n: usize,
+    lowest: [i32; 8],
+    highest: [i32; 8],
+    marks: [u8; 8],
+) -> bool
+    requires { ⌜ n ≤ 8 ⌝ }
+{
+    if !is_legal(settings, n, lowest, highest, marks) {
+        return false;
+    }
+    (windows(n, marks) <= settings.windows.most) & (covered(n, marks) <= settings.covered.most)
+}
+
+fn is_legal(
+    settings: Settings,
+    n: usize,
+    lowest: [i32; 8],
+    highest: [i32; 8],
+    marks: [u8; 8],
+) -> bool
+    requires { ⌜ n ≤ 8 ⌝ }
+{
+    let mut i = 0;
+    while i < n {
+        if !has_load(settings.k, lowest[i], highest[i], marks[i]) {
+            return false;
+        }
+        if !is_placed(settings, n, marks, i) {
+            return false;
+        }
+        i += 1;
+    }
+    true
+}
+
+// Whether the mark goes with some load of the range.
+fn has_load(k: i32, lowest: i32, highest: i32, mark: u8) -> bool {
+    if mark > 3 {
+        return false;
+    }
+    if goes_with_over(mark) {
+        return highest > k;
+    }
+    lowest <= k
+}
+
+// A first slot must begin a window that keeps the rule; a later one and a bridge must follow a covered slot.
+fn is_placed(settings: Settings, n: usize, marks: [u8; 8], i: usize) -> bool
+    requires { ⌜ (i < n) × (n ≤ 8) ⌝ }
+{
+    let mark = marks[i];
+    if mark == 1 {
+        return is_window(settings, marks, i, end_of(n, marks, i));
+    }
+    if i == 0 {
+        return mark == 0;
+    }
+    (mark == 0) | (marks[i - 1] != 0)
+}
+
+// The slot after the window that begins at a slot.
+fn end_of(n: usize, marks: [u8; 8], first: usize) -> usize
+    requires { ⌜ (first < n) × (n ≤ 8) ⌝ }
+    ensures { λ r. ⌜ (first < r) × (r ≤ n) ⌝ }
+{
+    let mut end = first + 1;
+    while end < n {
+        if marks[end] < 2 {
+            return end;
+        }
+        end += 1;
+    }
+    end
+}
+
+// Whether the window from first to below end keeps the rule: its last slot is no bridge, and it has at most len slots
+// and h bridges.
+fn is_window(settings: Settings, marks: [u8; 8], first: usize, end: usize) -> bool
+    requires { ⌜ (first < end) × (end ≤ 8) ⌝ }
+{
+    (marks[end - 1] != 3)
+        & (end - first <= settings.len as usize)
+        & (count(marks, first, end, 3) <= settings.h)
+}
+
+pub fn windows(n: usize, marks: [u8; 8]) -> u16
+    requires { ⌜ n ≤ 8 ⌝ }
+{
+    count(marks, 0, n, 1)
+}
+
+pub fn covered(n: usize, marks: [u8; 8]) -> u16
+    requires { ⌜ n ≤ 8 ⌝ }
+{
+    n as u16 - count(marks, 0, n, 0)
+}
+
+// How many of the marks from first to below end are this one.
+pub fn count(marks: [u8; 8], first: usize, end: usize, mark: u8) -> u16
+    requires { ⌜ (first ≤ end) × (end ≤ 8) ⌝ }
+    ensures { λ r. ⌜ r + first ≤ end ⌝ }
+{
+    let mut seen: u16 = 0;
+    let mut i = first;
+    while i < end {
+        if marks[i] == mark {
+            seen += 1;
+        }
+        i += 1;
+    }
+    seen
+}

@@ -1,0 +1,53 @@
+// Document 01's table "Where each refusal is checked", read for itself: the places lengths, settings and slots. No
+// function of the planner is used here.
+ghost use Prim.Native.Nat.{_≤_};
+use crate::calls::crossed;
+use crate::calls::highest_length;
+use crate::calls::marks_length;
+use crate::calls::settings;
+use crate::calls::slots;
+use settings::CountRange;
+use settings::Settings;
+
+// The number of the first refusal that applies to a call, or 0. A start of the watch is a call for 64 slots.
+pub fn refusal(call: u32) -> u16
+    ensures { λ r. ⌜ r ≤ 31 ⌝ }
+{
+    let n = slots(call);
+    if (n == 0) | (n > 64) {
+        return 21;
+    }
+    if (highest_length(call) != n) | (marks_length(call) != n) {
+        return 22;
+    }
+    let wrong = wrong_settings(settings(call), n);
+    if wrong > 0 {
+        return wrong;
+    }
+    if crossed(call) < n {
+        return 31;
+    }
+    0
+}
+
+fn wrong_settings(settings: Settings, n: u16) -> u16
+    ensures { λ r. ⌜ r ≤ 26 ⌝ }
+{
+    if (settings.len == 0) | (settings.len > n) {
+        return 23;
+    }
+    if (settings.h > 0) & (settings.h as u32 + 1 >= settings.len as u32) {
+        return 24;
+    }
+    if is_wrong(settings.windows, n) {
+        return 25;
+    }
+    if is_wrong(settings.covered, n) {
+        return 26;
+    }
+    0
+}
+
+fn is_wrong(range: CountRange, n: u16) -> bool {
+    (range.least > range.most) | (range.most > n)
+}

@@ -1,0 +1,45 @@
+-- A request's plans are the marks to which the judge says yes, for some loads in its ranges.
+use Prim.Native.Nat.{ℕ}
+use mathlib.Core.Bool.{true}
+use mathlib.Core.List.{List, [], _∷_}
+use mathlib.Core.Logic.{_↔_}
+use mathlib.Core.Path.{_≡_, sym, subst, _∙_}
+use lib.ListN.{length}
+use Rattle.judge.proofs.Allowing.{Allowed, allowing, saying, said}
+use Rattle.judge.specs.Judgment.{says, judgment}
+use Rattle.rule.proofs.Onward.{as-long}
+use Rattle.rule.specs.Rule.{carries, windows, covered}
+use Rattle.settings.proofs.Passing.{Passing, passing, beside}
+use Rattle.settings.specs.declared.Settings.{Settings}
+use Rattle.requests.proofs.Requests.{Formed, formed, chosen-slots}
+use Rattle.requests.specs.Promise.{YesFor}
+use Rattle.requests.specs.Request.{Request, ranges, WellFormed, PlanOf}
+
+module _ (r : Request) (good : Formed r) (ms : List ℕ) where
+  abbrev s : Settings
+  s = r .settings
+
+  -- with the loads that it is legal for
+  pub yes-to : (plan : PlanOf r ms) → judgment s (plan .in-rule .0) ms ≡ says true (windows ms) (covered ms)
+  yes-to plan =
+      let (xs, c, e) = plan .in-rule in
+      let n = chosen-slots r good xs c in
+      let m = as-long (carries (s .k)) (s .len) (s .h) xs ms e ∙ n in
+      saying s xs ms
+      (passing .1 (subst (λ n. Passing n (length ms ∷ []) s) (sym n) (beside (m, tt) (good .pass))))
+      (allowing .1 (record { in-rule = e; windows-fit = plan .windows-fit; covered-fit = plan .covered-fit }))
+
+  to : PlanOf r ms → YesFor s (ranges r) ms
+  to plan = record { loads = plan .in-rule .0; chosen = plan .in-rule .1; yes = yes-to plan }
+
+  from : YesFor s (ranges r) ms → PlanOf r ms
+  from y =
+      let a : Allowed s (y .loads) ms = allowing .0 (said s (y .loads) ms _ _ (y .yes) .1) in
+      record {
+        in-rule = (y .loads, y .chosen, a .in-rule);
+        windows-fit = a .windows-fit;
+        covered-fit = a .covered-fit;
+      }
+
+pub judged : (r : Request) → WellFormed r → (ms : List ℕ) → PlanOf r ms ↔ YesFor (r .settings) (ranges r) ms
+judged r w ms = (to r (formed .0 w) ms, from r (formed .0 w) ms)
