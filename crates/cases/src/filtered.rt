@@ -12,7 +12,6 @@ use crate::text::DECIMAL;
 use filter::Answer;
 use filter::filter;
 use judge::judge;
-use listing::ROOM;
 use settings::Settings;
 
 // `filter`: the settings; the lowest loads; the highest loads.
@@ -45,7 +44,7 @@ fn planned(settings: Settings, lowest: &mut [i32], highest: &mut [i32], marks: &
 }
 
 fn listed(answer: Answer, lowest: &[i32], highest: &[i32], marks: &[u8]) {
-    let mut text = [0u8; ROOM];
+    let mut text = io::buffer();
     let length = listing::answered(answer, lowest, highest, marks, &mut text);
     write(&text[..length]);
 }

@@ -57,7 +57,6 @@ use Rattle.view.proofs.view_of as ViewOf
 use Rattle.view.proofs.View.look_up as ViewLookUp
 use Rattle.view.proofs.viewed as Viewed
 use Rattle.listing.proofs.answered as ListingAnswered
-use Rattle.listing.proofs.buffer as ListingBuffer
 use Rattle.listing.proofs.refused as ListingRefused
 use Rattle.c_api.proofs.icecoppice_filter as CFilter
 use Rattle.c_api.proofs.icecoppice_judge as CJudge
@@ -66,7 +65,7 @@ use Rattle.c_api.proofs.icecoppice_watch_step as CStep
 use Rattle.rule.proofs.over as Over
 use Rattle.settings.proofs.check as Check
 use Rattle.checks.proofs.check_request as CheckRequest
-use Rattle.least.proofs.class_of as ClassOf
+use Rattle.rule.proofs.class_of as ClassOf
 use Rattle.least.proofs.low as Low
 use Rattle.least.proofs.rows as Rows
 use Rattle.form1.proofs.open as Open
@@ -189,7 +188,6 @@ contracts =
       view-look-up = record { meets = ViewLookUp.Met.met; total = λ M 𝓤 H A mem run κs a. (tt, λ g. refl) };
       viewed = record { meets = Viewed.Met.met; total = λ M 𝓤 H A mem run κs a. (tt, λ g. refl) };
       answered = record { meets = ListingAnswered.Met.met; total = λ M 𝓤 H A mem run κs a. (tt, λ g. refl) };
-      buffer = record { meets = ListingBuffer.Met.met; total = λ M 𝓤 H A mem run κs a. (tt, λ g. refl) };
       refused = record { meets = ListingRefused.Met.met; total = λ M 𝓤 H A mem run κs a. (tt, λ g. refl) };
       filter-for-c = record { meets = CFilter.Met.met; total = λ M 𝓤 H A mem run κs a. (tt, λ g. refl) };
       judge-for-c = record { meets = CJudge.Met.met; total = λ M 𝓤 H A mem run κs a. (tt, λ g. refl) };

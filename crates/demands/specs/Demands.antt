@@ -62,7 +62,6 @@ use Rattle.view.proofs.view_of as ViewOf
 use Rattle.view.proofs.View.look_up as ViewLookUp
 use Rattle.view.proofs.viewed as Viewed
 use Rattle.listing.proofs.answered as ListingAnswered
-use Rattle.listing.proofs.buffer as ListingBuffer
 use Rattle.listing.proofs.refused as ListingRefused
 use Rattle.c_api.proofs.icecoppice_filter as CFilter
 use Rattle.c_api.proofs.icecoppice_judge as CJudge
@@ -71,7 +70,7 @@ use Rattle.c_api.proofs.icecoppice_watch_step as CStep
 use Rattle.rule.proofs.over as Over
 use Rattle.settings.proofs.check as Check
 use Rattle.checks.proofs.check_request as CheckRequest
-use Rattle.least.proofs.class_of as ClassOf
+use Rattle.rule.proofs.class_of as ClassOf
 use Rattle.least.proofs.low as Low
 use Rattle.least.proofs.rows as Rows
 use Rattle.form1.proofs.open as Open
@@ -255,7 +254,6 @@ pub record Contracts : Type 2 where
   pub viewed : Operation Viewed.Statement.statement Viewed.signature (λ M 𝓤. Viewed.spec 𝓤)
   -- crates/listing/src
   pub answered : Operation ListingAnswered.Statement.statement ListingAnswered.signature (λ M 𝓤. ListingAnswered.spec 𝓤)
-  pub buffer : Operation ListingBuffer.Statement.statement ListingBuffer.signature (λ M 𝓤. ListingBuffer.spec 𝓤)
   pub refused : Operation ListingRefused.Statement.statement ListingRefused.signature (λ M 𝓤. ListingRefused.spec 𝓤)
   -- crates/c_api/src
   pub filter-for-c : Operation CFilter.Statement.statement CFilter.signature (λ M 𝓤. CFilter.spec 𝓤)

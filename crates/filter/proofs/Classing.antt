@@ -8,13 +8,13 @@ use mathlib.Core.Path.{_≡_, sym, ap, _∙_, subst}
 use lib.IntN.{ℤ}
 use lib.ListN.{length, take, getD, set, replicate, length-map, length-set, length-replicate}
 use lib.Seq.{ext-getD, getD-set-same, getD-set-other, length-take-le}
-use Rattle.rule.specs.Ranges.{under-only, classOf}
+use Rattle.rule.specs.Ranges.{range, under-only, classOf}
 use Rattle.settings.specs.Refusals.{limit}
 use Rattle.requests.proofs.Choices.{paired-length}
-use Rattle.least.proofs.Coding.{code-back, code-at}
+use Rattle.rule.proofs.Coding.{code-back, code-at}
 use Rattle.requests.proofs.Narrowing.{class-at}
-use Rattle.least.specs.Codes.{code, coded, decoded}
-use Rattle.requests.specs.Request.{range, at, paired}
+use Rattle.rule.specs.Codes.{code, coded, decoded}
+use Rattle.requests.specs.Request.{at, paired}
 
 -- what holds of the places before i, and of the value written to place i, holds of the places before i + 1
 pub written : {A : Type 0} (P : ℕ → A → Type 0) (l : List A) (i : ℕ) (v d : A) → i < length l →

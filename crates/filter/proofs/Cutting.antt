@@ -15,15 +15,15 @@ use mir.Syntax.{w32}
 use mir.Val.{SFits}
 use Rattle.facts.proofs.Integers.{le→lt-suc}
 use Rattle.facts.proofs.Rules.{holds, map-set}
-use Rattle.rule.specs.Ranges.{Range, Class, under-only, over-only, either, classOf}
+use Rattle.rule.specs.Ranges.{Range, range, Class, under-only, over-only, either, classOf}
 use Rattle.settings.specs.declared.Settings.{Settings}
 use Rattle.filter.proofs.Classing.{written}
-use Rattle.least.proofs.Coding.{codes-under, codes-over, codes-either, code-at}
+use Rattle.rule.proofs.Coding.{codes-under, codes-over, codes-either, code-at}
 use Rattle.requests.proofs.Narrowing.{along-length, along-at, class-at, Ends, ends}
-use Rattle.least.specs.Codes.{coded, decoded}
+use Rattle.rule.specs.Codes.{coded, decoded}
 use Rattle.filter.specs.Parts.{losing, Loses}
 use Rattle.requests.specs.Promise.{Loss, nothing, under-part, over-part, lowestAfter, highestAfter}
-use Rattle.requests.specs.Request.{range, at, paired}
+use Rattle.requests.specs.Request.{at, paired}
 use Rattle.requests.specs.Solution.{possible, lossOf, loss, along}
 use Rattle.filter.specs.declared.narrow.Part.{Part}
 use Rattle.filter.specs.declared.narrow.Part.the-variants.{Nothing, Under, Over}

@@ -17,12 +17,12 @@ use Rattle.rule.specs.Ranges.{Class, allows}
 use Rattle.settings.specs.Refusals.{limit}
 use Rattle.rule.specs.Rule.{count, legalBy, windows, covered}
 use Rattle.settings.specs.declared.Settings.{Settings}
-use Rattle.least.proofs.Coding.{cannot-be-uncovered}
+use Rattle.rule.proofs.Coding.{cannot-be-uncovered}
 use Rattle.requests.proofs.Exact.{least}
 use Rattle.least.proofs.Filling.{at-slot}
 use Rattle.least.proofs.Scanning.{from-slot}
 use Rattle.requests.specs.Best.{Fits, spend, dearer, best, onward, after}
-use Rattle.least.specs.Codes.{coded, decoded}
+use Rattle.rule.specs.Codes.{coded, decoded}
 use Rattle.filter.specs.Drawing.{Able, closedBy, outsideBy, insideBy, nextBy}
 use Rattle.least.specs.Rows.{Behind}
 use Rattle.requests.specs.Solution.{sentinel, possible}

@@ -6,9 +6,9 @@ ghost use lib.ListN.{length, take};
 ghost use Rattle.rule.specs.Ranges.{classOf};
 ghost use Rattle.settings.specs.Refusals.{limit};
 ghost use Rattle.requests.specs.Request.{paired};
-ghost use Rattle.least.specs.Codes.{decoded};
-use least::UNDER;
-use least::class_of;
+ghost use Rattle.rule.specs.Codes.{decoded};
+use rule::UNDER;
+use rule::class_of;
 
 // The classes of all slots.
 pub(crate) fn classify(k: i32, lowest: &[i32], highest: &[i32]) -> [u8; 64]

@@ -6,13 +6,13 @@ ghost use lib.ListN.{length};
 ghost use Rattle.rule.specs.Ranges.{allows};
 ghost use Rattle.settings.specs.Refusals.{limit};
 ghost use Rattle.rule.specs.Rule.{legalBy, windows, covered};
-ghost use Rattle.least.specs.Codes.{coded, decoded};
+ghost use Rattle.rule.specs.Codes.{coded, decoded};
 ghost use Rattle.filter.specs.Drawing.{Able, closedBy, nextBy};
 ghost use Rattle.least.specs.Rows.{Behind};
 ghost use Rattle.requests.specs.Solution.{possible};
-use least::OVER;
-use least::UNDER;
 use least::rows;
+use rule::OVER;
+use rule::UNDER;
 use settings::Settings;
 
 // Where the drawing stands: the mark before, 0 at the start, and the windows and covered slots that are left to the plan. What

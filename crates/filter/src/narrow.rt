@@ -6,13 +6,13 @@ ghost use lib.ListN.{length, take, set};
 ghost use Rattle.settings.specs.Refusals.{limit};
 ghost use Rattle.rule.specs.Ranges.{classOf};
 ghost use Rattle.filter.specs.Parts.{losing, Loses};
-ghost use Rattle.least.specs.Codes.{coded, decoded};
+ghost use Rattle.rule.specs.Codes.{coded, decoded};
 ghost use Rattle.requests.specs.Promise.{lowestAfter, highestAfter};
 ghost use Rattle.requests.specs.Request.{paired};
 ghost use Rattle.requests.specs.Solution.{possible, loss, lowestLeft, highestLeft};
-use least::OVER;
-use least::UNDER;
 use least::low;
+use rule::OVER;
+use rule::UNDER;
 use settings::Settings;
 
 // What a slot loses.

@@ -14,12 +14,12 @@ use lib.Seq.{getD-set-same, getD-set-other}
 use Rattle.rule.specs.Ranges.{Class}
 use Rattle.settings.specs.declared.Settings.{Settings}
 use Rattle.settings.specs.Refusals.{limit}
-use Rattle.least.proofs.Coding.{can-be-uncovered, cannot-be-uncovered}
+use Rattle.rule.proofs.Coding.{can-be-uncovered, cannot-be-uncovered}
 use Rattle.requests.proofs.Exact.{fewer}
 use Rattle.requests.proofs.Least.{fewest-is}
 use Rattle.least.proofs.Scanning.{from-slot}
 use Rattle.requests.specs.Best.{spend, dearer, best}
-use Rattle.least.specs.Codes.{coded, decoded}
+use Rattle.rule.specs.Codes.{coded, decoded}
 use Rattle.least.specs.Rows.{Behind, leastFrom, onwardFrom, firstBelow}
 use Rattle.requests.specs.Solution.{sentinel}
 

@@ -1,4 +1,3 @@
-pub mod Coding
 pub mod Filling
 mod Lending
 pub mod Scanning

@@ -14,7 +14,7 @@ use Rattle.settings.specs.declared.Settings.{Settings}
 use Rattle.settings.specs.Refusals.{limit}
 use Rattle.requests.proofs.Exact.{spend-capped, onward-le, no-room}
 use Rattle.requests.specs.Best.{spend, dearer, best, onward, after}
-use Rattle.least.specs.Codes.{coded, decoded}
+use Rattle.rule.specs.Codes.{coded, decoded}
 use Rattle.least.specs.Rows.{Behind, goneOn, wentOn}
 use Rattle.requests.specs.Solution.{sentinel}
 use Rattle.least.specs.declared.Going.{Going}

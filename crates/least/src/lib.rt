@@ -7,18 +7,13 @@ ghost use Prim.Native.Nat.{ℕ, _+_, _-_, _≤_, _<_, min};
 ghost use lib.ListN.{length, take};
 ghost use Rattle.settings.specs.Refusals.{limit};
 ghost use Rattle.requests.specs.Best.{spend};
-ghost use Rattle.least.specs.Codes.{coded, decoded};
+ghost use Rattle.rule.specs.Codes.{coded, decoded};
 ghost use Rattle.least.specs.Rows.{Behind, leastFrom, onwardFrom, firstBelow, wentOn};
 ghost use Rattle.requests.specs.Solution.{sentinel, cheapest, sparsest};
+use rule::OVER;
+use rule::UNDER;
 use settings::LIMIT;
 use settings::Settings;
-
-mod codes;
-
-pub use codes::EITHER;
-pub use codes::OVER;
-pub use codes::UNDER;
-pub use codes::class_of;
 
 // The covered count that stands for "no plan". Counts are capped there, so that they are the least only below it.
 pub const NO_PLAN: u16 = 65535;

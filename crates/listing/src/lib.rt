@@ -1,7 +1,6 @@
 // The text of an answer, as the plan printer writes it. What it is stands in specs/Text.antt.
-ghost use mathlib.Core.Path.{_≡_};
 ghost use Prim.Native.Nat.{_≤_};
-ghost use lib.ListN.{length, replicate};
+ghost use lib.ListN.{length};
 ghost use Rattle.listing.specs.Text.{text, Written, room};
 ghost use Rattle.filter.specs.Answers.{handed};
 use filter::Answer;
@@ -10,16 +9,6 @@ mod lines;
 mod put;
 
 pub use lines::refused;
-
-// Room for every text of at most 64 slots.
-pub const ROOM: usize = 2024;
-
-// A buffer with that room, of zeros.
-pub fn buffer() -> [u8; ROOM]
-    ensures { λ r. ⌜ r ≡ replicate room 0 ⌝ }
-{
-    [0; ROOM]
-}
 
 // Writes the text of what the filter handed back, and gives its length; less where the buffer is too short for it.
 pub fn answered(

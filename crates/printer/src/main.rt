@@ -11,11 +11,13 @@ use card::read;
 use filter::filter;
 use libc::STDIN_FILENO;
 use libc::STDOUT_FILENO;
-use listing::buffer;
 use settings::Settings;
 
 // How many bytes of a file are held: one more than it may have, so that a longer one is refused.
 const HELD: usize = 4097;
+
+// Room for the text of every answer: `print` asks for at least `room` bytes.
+const ROOM: usize = 2024;
 
 // What was read of a file: the first bytes, `size` of them.
 pub struct Input {
@@ -27,7 +29,7 @@ fn main() {
     let input = read_input();
     let size = input.size;
     let file = input.bytes;
-    let mut text = buffer();
+    let mut text = [0; ROOM];
     let length = print(&file[..size], &mut text);
     io::write_all(STDOUT_FILENO, &text[..length]);
 }

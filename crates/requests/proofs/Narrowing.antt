@@ -12,12 +12,12 @@ use lib.Signed.{ltZ, _<ℤ_, _≤ℤ_}
 use Rattle.facts.proofs.Integers.{side, ≤ℤ-trans, lt→suc-le, suc-le→lt, le→lt-suc, lt→le}
 use Rattle.facts.proofs.Rules.{holds, refuted}
 use Rattle.rule.proofs.Loads.{over→lt, lt→over, under→le, le→under, rise}
-use Rattle.rule.specs.Ranges.{Range, Class, under-only, over-only, either, classOf}
+use Rattle.rule.specs.Ranges.{Range, range, Class, under-only, over-only, either, classOf}
 use Rattle.rule.specs.Rule.{over}
 use Rattle.settings.specs.declared.Settings.{Settings}
 use Rattle.requests.proofs.Requests.{Formed, one-side, width, chosen-slots, possible→fits, fits→plan, left→possible, possible→left}
 use Rattle.requests.specs.Promise.{Loss, nothing, under-part, over-part, lowestAfter, highestAfter}
-use Rattle.requests.specs.Request.{range, Request, slots, at, paired, PlanOf, LeftAt}
+use Rattle.requests.specs.Request.{Request, slots, at, paired, PlanOf, LeftAt}
 use Rattle.requests.specs.Solution.{classes, possible, lossOf, loss, along}
 
 pub along-length : (f : ℕ → ℤ → ℤ) (xs : List ℤ) → length (along f xs) ≡ length xs

@@ -15,13 +15,13 @@ use lib.Signed.{ltZ, _≤ℤ_, ltZ-no, ltZ-yes, clashℤ, ≤ℤ-refl}
 use Rattle.settings.proofs.Passing.{Passing, passing}
 use Rattle.rule.proofs.Ranges.{chosen-length, by-classes}
 use Rattle.facts.proofs.Rules.{refuted}
-use Rattle.rule.specs.Ranges.{Range, Proper, ChosenIn, LegalFor, Class, under-only, over-only, either, classOf, allows}
+use Rattle.rule.specs.Ranges.{Range, range, Proper, ChosenIn, LegalFor, Class, under-only, over-only, either, classOf, allows}
 use Rattle.rule.specs.Rule.{over, legal, legalBy, windows}
 use Rattle.settings.specs.declared.Settings.{Settings}
 use Rattle.requests.proofs.Choices.{paired-length, paired-set, in-slots, pin, unpin, replaced-proper, replaced-class}
 use Rattle.requests.proofs.Least.{exists→enough, enough→exists}
 use Rattle.requests.specs.Best.{Fits}
-use Rattle.requests.specs.Request.{range, Request, slots, ranges, at, paired, crossed, behind, refused, WellFormed, PlanOf, UnlimitedPlanOf, LeftAt}
+use Rattle.requests.specs.Request.{Request, slots, ranges, at, paired, crossed, behind, refused, WellFormed, PlanOf, UnlimitedPlanOf, LeftAt}
 use Rattle.requests.specs.Solution.{sentinel, classes, FitsAt, possible}
 
 -- what is known of a request that is not refused

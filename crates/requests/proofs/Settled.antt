@@ -15,7 +15,7 @@ use Rattle.rule.proofs.Loads.{lt→over, le→under}
 use Rattle.rule.proofs.Onward.{as-long}
 use Rattle.settings.proofs.Passing.{Passing, beside}
 use Rattle.rule.proofs.Tally.{windows-le}
-use Rattle.rule.specs.Ranges.{under-only, over-only, classOf}
+use Rattle.rule.specs.Ranges.{range, under-only, over-only, classOf}
 use Rattle.rule.specs.Rule.{carries, windows, LeastOver}
 use Rattle.requests.proofs.Choices.{paired-set, replaced-proper, replaced-class}
 use Rattle.requests.proofs.Outcomes.{planned-so, none-so, says-none, says-planned, planned-where, least-windows}
@@ -23,7 +23,7 @@ use Rattle.requests.proofs.Requests.{Formed, formed, class-slots, chose
 use Rattle.requests.proofs.Settling.{settled-under, settled-over}
 use Rattle.requests.specs.Demand3.{LeastUnlimited, Settles, unlimited, Counts, SettlesAnswer}
 use Rattle.requests.specs.Promise.{Outcome, Keeps}
-use Rattle.requests.specs.Request.{range, Request, ranges, at, paired, PlanOf, UnlimitedPlanOf}
+use Rattle.requests.specs.Request.{Request, ranges, at, paired, PlanOf, UnlimitedPlanOf}
 use Rattle.requests.specs.Request.{Open, settledUnder, settledOver}
 
 -- the plans with the window maximum ignored are those of the window range 0 to n

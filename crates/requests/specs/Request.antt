@@ -7,7 +7,7 @@ use mathlib.Core.Path.{_≡_}
 use lib.IntN.{ℤ, pos, sucℤ}
 use lib.ListN.{length, getD, set}
 use lib.Signed.{ltZ, _<ℤ_, _≤ℤ_}
-use Rattle.rule.specs.Ranges.{Range, ChosenIn, LegalFor}
+use Rattle.rule.specs.Ranges.{Range, range, ChosenIn, LegalFor}
 use Rattle.settings.specs.Refusals.{refusal}
 use Rattle.rule.specs.Rule.{legal, windows, covered, LeastOver}
 use Rattle.settings.specs.declared.Settings.{Settings}
@@ -25,9 +25,6 @@ asked s los his ms = record { settings = s; lowest = los; highest = his; marks =
 -- the number of slots, the load ranges, and the two ends of slot i's
 abbrev pub slots : Request → ℕ
 slots r = length (r .lowest)
-
-abbrev pub range : (lowest highest : ℤ) → Range
-range lo hi = record { lowest = lo; highest = hi }
 
 abbrev pub paired : (lowest highest : List ℤ) → List Range
 paired [] his = []

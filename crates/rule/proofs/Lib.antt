@@ -1,5 +1,6 @@
 pub mod Bytes
 pub mod Classes
+pub mod Coding
 pub mod Leasts
 pub mod Loads
 pub mod Loosening

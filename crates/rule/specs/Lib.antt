@@ -1,3 +1,4 @@
+pub mod Codes
 pub mod Rule
 pub mod Ranges
 pub mod Reading

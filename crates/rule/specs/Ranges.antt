@@ -12,6 +12,9 @@ pub record Range : Type 0 where
   pub lowest : ℤ
   pub highest : ℤ
 
+abbrev pub range : (lowest highest : ℤ) → Range
+range lo hi = record { lowest = lo; highest = hi }
+
 -- no lowest load is above its highest
 abbrev pub Proper : List Range → Type 0
 Proper [] = Unit

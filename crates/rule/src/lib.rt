@@ -1,7 +1,14 @@
 // The rule of plans: its definitions in specs/, what follows from them in proofs/. Beside them stands what code above shares: the
-// test of a load, and where a reading of marks stands.
+// test of a load, what a slot can be, and where a reading of marks stands.
 ghost use mathlib.Core.Path.{_≡_};
 ghost use Rattle.rule.specs.Rule.{over as Rule·over};
+
+mod codes;
+
+pub use codes::EITHER;
+pub use codes::OVER;
+pub use codes::UNDER;
+pub use codes::class_of;
 
 // Whether a load is over the threshold k.
 pub fn over(k: i32, load: i32) -> bool

@@ -9,7 +9,7 @@ use mir.Val.{SFits}
 use borrow.Author.Needs.{needs}
 use Rattle.settings.specs.Refusals.{limit}
 use Rattle.filter.proofs.Answering.{sizes, whole, whole-short, no-plan-kept, some-plan, plan-kept}
-use Rattle.least.specs.Codes.{decoded}
+use Rattle.rule.specs.Codes.{decoded}
 use Rattle.requests.specs.Request.{Request, asked, slots, WellFormed}
 use Rattle.requests.specs.Solution.{classes, cheapest, sparsest}
 use Rattle.filter.proofs.plan.Statement.{statement}

@@ -2,7 +2,7 @@
 use native.Mathlib.Omega.{arith}
 use mathlib.Core.Path.{refl}
 use borrow.Author.Needs.{needs}
-use Rattle.least.proofs.Coding.{can-be-over, coding}
+use Rattle.rule.proofs.Coding.{can-be-over, coding}
 use Rattle.least.proofs.go_on.Statement.{statement}
 use Rattle.least.proofs.go_on.Tie as tie
 

@@ -9,15 +9,12 @@ use Rattle.printer.proofs.main.Tie as tie
 read-input-requires : tie.Need-read-input-requires
 read-input-requires c κs = search needs
 
-buffer-requires : tie.Need-buffer-requires
-buffer-requires c κs = search needs
-
 array-share-prefix-file : tie.Need-array-share-prefix-file
 array-share-prefix-file c = search needs
 
 slice-aggregate-print : tie.Need-slice-aggregate-print
 slice-aggregate-print c =
-    let read = c .before .before .before .read-input in
+    let read = c .before .before .read-input in
     sym (length-take-le (read .result .size) (read .result .bytes) (omega (arith, read .ensures)))
 
 slice-aggregate-print-2 : tie.Need-slice-aggregate-print-2
@@ -47,7 +44,6 @@ main-spec =
     tie.close
     (tie.spec
     read-input-requires
-    buffer-requires
     array-share-prefix-file
     slice-aggregate-print
     slice-aggregate-print-2

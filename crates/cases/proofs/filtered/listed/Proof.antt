@@ -6,6 +6,9 @@ use lib.Seq.{length-take-le}
 use Rattle.cases.proofs.filtered.listed.Statement.{statement}
 use Rattle.cases.proofs.filtered.listed.Tie as tie
 
+buffer-requires : tie.Need-buffer-requires
+buffer-requires c κs = search needs
+
 slice-aggregate-answered : tie.Need-slice-aggregate-answered
 slice-aggregate-answered c = search needs
 
@@ -32,6 +35,7 @@ pub listed-spec : {M : Type 1} → statement M
 listed-spec =
     tie.close
     (tie.spec
+    buffer-requires
     slice-aggregate-answered
     answered-requires
     array-share-prefix-text

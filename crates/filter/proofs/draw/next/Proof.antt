@@ -1,5 +1,5 @@
 -- `filter::draw::next` meets its contract: its tests are the definition's, and what it uses up is there (`Able`).
-use Rattle.least.proofs.Coding.{coding}
+use Rattle.rule.proofs.Coding.{coding}
 use Rattle.filter.proofs.Drawing.{spending}
 use Rattle.filter.proofs.draw.next.Statement.{statement}
 use Rattle.filter.proofs.draw.next.Tie as tie

@@ -10,7 +10,7 @@ use mir.Facts.{toZ-ofZ}
 use mir.Syntax.{w32}
 use mir.Val.{SFits, ofZ, toZ}
 use Rattle.filter.proofs.Cutting.{Along, none-cut, one-cut, all-cut, loses}
-use Rattle.least.specs.Codes.{decoded}
+use Rattle.rule.specs.Codes.{decoded}
 use Rattle.requests.specs.Promise.{lowestAfter, highestAfter}
 use Rattle.requests.specs.Request.{at}
 use Rattle.requests.specs.Solution.{loss}

@@ -1,12 +1,12 @@
--- `least::codes::class_of` meets its contract: its tests are the definition's.
+-- `rule::codes::class_of` meets its contract: its tests are the definition's.
 use mathlib.Core.Path.{_≡_, sym, ap, _∙_}
 use borrow.Author.Needs.{needs}
 use mir.Facts.{toZ-ofZ}
 use Rattle.rule.proofs.Classes.{class-over, class-either, class-under}
 use Rattle.rule.specs.Rule.{over}
-use Rattle.least.specs.Codes.{code}
-use Rattle.least.proofs.codes.class_of.Statement.{statement}
-use Rattle.least.proofs.codes.class_of.Tie as tie
+use Rattle.rule.specs.Codes.{code}
+use Rattle.rule.proofs.codes.class_of.Statement.{statement}
+use Rattle.rule.proofs.codes.class_of.Tie as tie
 
 over-requires : tie.Need-over-requires
 over-requires c κs = search needs

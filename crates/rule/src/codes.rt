@@ -1,11 +1,10 @@
 // What a slot can be, as a byte.
 ghost use mathlib.Core.Path.{_≡_};
-ghost use Rattle.rule.specs.Ranges.{classOf};
-ghost use Rattle.requests.specs.Request.{range};
-ghost use Rattle.least.specs.Codes.{code};
-use rule::over;
+ghost use Rattle.rule.specs.Ranges.{classOf, range};
+ghost use Rattle.rule.specs.Codes.{code};
+use crate::over;
 
-// A slot can be under only, over only, or is open; `low` and `rows` take any other byte as open.
+// A slot can be under only, over only, or is open. Who reads such a byte takes any other as open (`coded`).
 pub const UNDER: u8 = 0;
 
 pub const OVER: u8 = 1;

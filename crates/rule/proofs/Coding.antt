@@ -8,9 +8,9 @@ use lib.Dec.{eqb}
 use lib.ListN.{take, getD, List·getD-map}
 use lib.Seq.{getD-take}
 use Rattle.facts.proofs.Rules.{rules}
 use Rattle.rule.specs.Ranges.{Class, under-only, over-only, either, allows}
 use Rattle.rule.specs.Rule.{goesWith}
-use Rattle.least.specs.Codes.{code, coded, decoded}
+use Rattle.rule.specs.Codes.{code, coded, decoded}
 
 -- a byte says the class that it was made for
 pub code-back : (c : Class) → coded (code c) ≡ c
