@@ -1,47 +1,78 @@
 -- What a caller can tell from the numbers of the watch.
 use Prim.Native.Nat.{ℕ}
 use native.Mathlib.Omega.{arith}
-use mathlib.Core.Bool.{cond}
+use mathlib.Core.Bool.{Bool}
+use mathlib.Core.Logic.{⊎-elim}
 use mathlib.Core.Option.{Option, none, some}
 use mathlib.Core.Path.{_≡_, refl, sym, ap, _∙_}
-use lib.Dec.{eqb}
-use Rattle.refusals.specs.Answer.{Answer}
-use Rattle.refusals.specs.declared.StepRefusal.the-variants.{Unreached, Full}
-use Rattle.watch.proofs.Starting.{from-23, refusing, giving}
+use lib.IntN.{ℤ}
+use Rattle.refusals.proofs.Numbered.{same-refusal, from-11}
+use Rattle.refusals.specs.Answer.{Answer, refuses, gives}
+use Rattle.refusals.specs.Numbers.{number, slot}
+use Rattle.refusals.specs.declared.Refusal.{Refusal}
+use Rattle.refusals.specs.declared.Refusal.the-variants.{Unreached, Full}
+use Rattle.watch.proofs.Starting.{refusing, giving}
 use Rattle.watch.specs.Promise.{starting, told}
 use Rattle.watch.specs.States.{startRefusal}
 use Rattle.watch.specs.declared.Watch.{Watch}
-use Rattle.watch.specs.declared.step.Answer.{Answer as step·Answer}
-use Rattle.watch.specs.declared.step.Answer.the-variants.{Taken, Refused}
-use Rattle.c_api.specs.WatchNumbers.{startOf, stepOf, StartMeans, StepMeans}
+use Rattle.c_api.specs.WatchNumbers.{startOf, stepOf, Stepping, StartMeans, StepMeans}
 use Rattle.c_api.specs.declared.watches.StepNumbers.{StepNumbers}
 
--- no refusal of a start has the number 0
+-- no refusal has the number 0
 pub start-means : StartMeans
-start-means k len h = (by (startRefusal len h) refl, λ e. ap code (giving k len h e))
+start-means k shape = (by (startRefusal shape) refl, λ e. ap code (giving k shape e))
   where
     code : Answer Watch → ℕ
     code a = startOf a .code
 
-    by : (o : Option ℕ) → startRefusal len h ≡ o → code (starting k len h) ≡ 0 → startRefusal len h ≡ none
+    by : (o : Option Refusal) → startRefusal shape ≡ o → code (starting k shape) ≡ 0 → startRefusal shape ≡ none
     by none is e = is
-    by (some n) is e = absurd (omega (arith, from-23 len h is, e, ap code (refusing k len h n .1 is)))
+    by (some r) is e = absurd (omega (arith, from-11 r, e, ap code (refusing k shape r .1 is)))
 
--- the answer that a step's numbers are of
-abbrev answered : StepNumbers → step·Answer
-answered s = cond (eqb (s .code) 0) (Taken (s .opened)) (cond (eqb (s .code) 32) (Refused Unreached) (Refused Full))
+abbrev code : Answer Bool → ℕ
+code (gives opened) = 0
+code (refuses r) = number r
 
-answered-back : (a : step·Answer) (w : Watch) → answered (stepOf (told a) w) ≡ a
-answered-back (Taken opened) w = refl
-answered-back (Refused Unreached) w = refl
-answered-back (Refused Full) w = refl
+same-code : (x : Answer Bool) (w : Watch) → (stepOf x w .code ≡ code x) × (stepOf x w .watch ≡ w)
+same-code (gives opened) w = (refl, refl)
+same-code (refuses r) w = (refl, refl)
 
-state-back : (a : step·Answer) (w : Watch) → stepOf (told a) w .watch ≡ w
-state-back (Taken opened) w = refl
-state-back (Refused r) w = refl
+module _ {w : Watch} {load : ℤ} {numbers : StepNumbers} (s : Stepping w load numbers) where
+  abbrev said : Answer Bool
+  said = told (s .stepped .answer)
 
-pub step-means : StepMeans
-step-means a b v w e = (
-  sym (answered-back a v) ∙ ap answered e ∙ answered-back b w,
-  sym (state-back a v) ∙ ap (λ s. s .watch) e ∙ state-back b w,
-)
+  code-is : numbers .code ≡ code said
+  code-is = ap (λ n. n .code) (s .is) ∙ same-code said _ .0
+
+  state-is : numbers .watch ≡ s .stepped .watch
+  state-is = ap (λ n. n .watch) (s .is) ∙ same-code said _ .1
+
+  -- the code tells the refusal: a step is refused with 32 or 33, which carry no slot
+  refusal-told : (q : Refusal) → slot q ≡ 0 → numbers .code ≡ number q → said ≡ refuses q
+  refusal-told q z e = by said refl (sym code-is ∙ e)
+    where
+      by : (x : Answer Bool) → said ≡ x → code x ≡ number q → said ≡ refuses q
+      by (gives opened) is e = absurd (omega (arith, from-11 q, e))
+      by (refuses r) is e =
+          let slotless = ⊎-elim (ap slot) (ap slot) (s .kept .kept r is .0) in
+          is ∙ ap refuses (same-refusal r q e (slotless ∙ sym z))
+
+  kept : (numbers .code ≡ 0 → ⊥) → numbers .watch ≡ w
+  kept n = by said refl
+    where
+      by : (x : Answer Bool) → said ≡ x → numbers .watch ≡ w
+      by (gives opened) is = absurd (n (code-is ∙ ap code is))
+      by (refuses r) is = state-is ∙ s .kept .kept r is .1
+
+  pub step-means : StepMeans w load numbers
+  step-means =
+      let k = s .kept in
+      record {
+        unreached = ((λ e. k .unreached .0 (refusal-told Unreached refl e)), λ n. code-is ∙ ap code (k .unreached .1 n));
+        full = ((λ e. k .full .0 (refusal-told Full refl e)), λ f. code-is ∙ ap code (k .full .1 f));
+        kept = kept;
+        taken = λ θ shape loads l few.
+            let (leads, is) = k .taken θ shape loads l few in
+            let opened-is = ap (λ n. n .opened) (s .is) ∙ ap (λ x. stepOf x (s .stepped .watch) .opened) is in
+            (rw state-is leads, code-is ∙ ap code is, rw state-is opened-is);
+      }

@@ -1,15 +1,18 @@
 -- The answers of the watch for C in numbers, and their promises.
-use Prim.Native.Nat.{ℕ}
-use mathlib.Core.Bool.{false}
+use Prim.Native.Nat.{_<_}
+use mathlib.Core.Bool.{Bool, false}
+use mathlib.Core.List.{List, [], _∷_, _++_}
 use mathlib.Core.Logic.{_↔_}
 use mathlib.Core.Option.{none}
 use mathlib.Core.Path.{_≡_}
 use lib.IntN.{ℤ, pos}
+use lib.ListN.{length}
 use Rattle.refusals.specs.Answer.{Answer, refuses, gives}
-use Rattle.watch.specs.Promise.{starting, Step, takes, refuses-with, told, Steps}
-use Rattle.watch.specs.States.{startRefusal}
+use Rattle.refusals.specs.Numbers.{number}
+use Rattle.rule.specs.declared.Shape.{Shape}
+use Rattle.watch.specs.Promise.{starting, told, opened, Steps}
+use Rattle.watch.specs.States.{startRefusal, most, Leads, Reached}
 use Rattle.watch.specs.declared.Watch.{Watch}
-use Rattle.watch.specs.declared.step.Answer.{Answer as step·Answer}
 use Rattle.watch.specs.declared.step.Stepped.{Stepped}
 use Rattle.c_api.specs.declared.watches.StartNumbers.{StartNumbers}
 use Rattle.c_api.specs.declared.watches.StepNumbers.{StepNumbers}
@@ -20,12 +23,12 @@ noWatch = record { k = pos 0; len = 0; h = 0; taken = 0; windows = 0; room = 0; 
 
 abbrev pub startOf : Answer Watch → StartNumbers
 startOf (gives w) = record { code = 0; watch = w }
-startOf (refuses n) = record { code = n; watch = noWatch }
+startOf (refuses r) = record { code = number r; watch = noWatch }
 
 -- a step: 0 with whether the load opened a window, else the refusal's number; and the state
-abbrev pub stepOf : Step → Watch → StepNumbers
-stepOf (takes opened) w = record { code = 0; opened = opened; watch = w }
-stepOf (refuses-with n) w = record { code = n; opened = false; watch = w }
+abbrev pub stepOf : Answer Bool → Watch → StepNumbers
+stepOf (gives opened) w = record { code = 0; opened = opened; watch = w }
+stepOf (refuses r) w = record { code = number r; opened = false; watch = w }
 
 -- The numbers are those of a step that keeps its promise.
 pub record Stepping (w : Watch) (load : ℤ) (numbers : StepNumbers) : Type 0 where
@@ -33,10 +36,15 @@ pub record Stepping (w : Watch) (load : ℤ) (numbers : StepNumbers) : Type 0 wh
   pub is : numbers ≡ stepOf (told (stepped .answer)) (stepped .watch)
   pub kept : Steps w load stepped
 
--- What a caller can tell (proofs/WatchMeaning.antt): code 0 is an accepted start, and no two answers of a step share their
--- numbers.
+-- What a caller can tell (proofs/WatchMeaning.antt): code 0 is an accepted start, and the code of a step says which of its three
+-- situations it was.
 abbrev pub StartMeans : Type 0
-StartMeans = (k : ℤ) (len h : ℕ) → (startOf (starting k len h) .code ≡ 0) ↔ (startRefusal len h ≡ none)
+StartMeans = (k : ℤ) (shape : Shape) → (startOf (starting k shape) .code ≡ 0) ↔ (startRefusal shape ≡ none)
 
-abbrev pub StepMeans : Type 0
-StepMeans = (a b : step·Answer) (v w : Watch) → stepOf (told a) v ≡ stepOf (told b) w → (a ≡ b) × (v ≡ w)
+pub record StepMeans (w : Watch) (load : ℤ) (numbers : StepNumbers) : Type 0 where
+  pub unreached : (numbers .code ≡ 32) ↔ (Reached w → ⊥)
+  pub full : (numbers .code ≡ 33) ↔ (Reached w × (w .taken ≡ most))
+  pub kept : (numbers .code ≡ 0 → ⊥) → numbers .watch ≡ w
+  pub taken : (k : ℤ) (shape : Shape) (loads : List ℤ) → Leads k shape loads w → length loads < most →
+      Leads k shape (loads ++ load ∷ []) (numbers .watch)
+      × (numbers .code ≡ 0) × (numbers .opened ≡ opened w (numbers .watch))

@@ -9,6 +9,7 @@ use filter::Answer;
 use filter::filter;
 use judge::Verdict;
 use judge::judge;
+use rule::Shape;
 use settings::CountRange;
 use settings::Settings;
 
@@ -111,8 +112,7 @@ fn gather(
 {
     Settings {
         k,
-        len,
-        h,
+        shape: Shape { len, h },
         windows: CountRange {
             least: windows_least,
             most: windows_most,
@@ -128,16 +128,15 @@ fn answer_numbers(answer: Answer) -> AnswerNumbers
     ensures { λ r. ⌜ r ≡ answerOf (Answers·told answer) ⌝ }
 {
     match answer {
-        Answer::Refused(refusal) => without_counts(refusal.number(), 0),
-        Answer::Crossed(slot) => without_counts(31, slot),
+        Answer::Refused(refusal) => without_counts(refusal.number(), refusal.slot()),
         Answer::NoPlan => without_counts(1, 0),
-        Answer::Planned { windows, covered } => AnswerNumbers {
+        Answer::Planned(counts) => AnswerNumbers {
             code: 0,
             slot: 0,
-            windows_least: windows.least,
-            windows_most: windows.most,
-            covered_least: covered.least,
-            covered_most: covered.most,
+            windows_least: counts.windows.least,
+            windows_most: counts.windows.most,
+            covered_least: counts.covered.least,
+            covered_most: counts.covered.most,
         },
     }
 }

@@ -1,7 +1,9 @@
 // The watch for C: its state goes in by value and comes back.
 ghost use mathlib.Core.Path.{_≡_};
+ghost use Rattle.rule.specs.Rule.{shaped};
 ghost use Rattle.watch.specs.Promise.{starting};
 ghost use Rattle.c_api.specs.WatchNumbers.{noWatch, startOf, Stepping};
+use rule::Shape;
 use watch::Answer;
 use watch::Started;
 use watch::Watch;
@@ -25,9 +27,9 @@ pub struct StepNumbers {
 // Starts a watch: its state, or code 23 or 24 and a state of zeros.
 #[no_mangle]
 pub extern "C" fn icecoppice_watch_start(k: i32, len: u16, h: u16) -> StartNumbers
-    ensures { λ r. ⌜ r ≡ startOf (starting k len h) ⌝ }
+    ensures { λ r. ⌜ r ≡ startOf (starting k (shaped len h)) ⌝ }
 {
-    let started = Watch::start(k, len, h);
+    let started = Watch::start(k, Shape { len, h });
     match started {
         Started::Watching(watch) => StartNumbers { code: 0, watch },
         Started::Refused(refusal) => StartNumbers {

@@ -9,30 +9,32 @@ use lib.ListN.{drop}
 use Rattle.refusals.proofs.Answer.{refused-by}
 use Rattle.refusals.specs.Answer.{refuses, gives}
 use Rattle.refusals.specs.Table.{row}
+use Rattle.refusals.specs.declared.Refusal.{Refusal}
+use Rattle.refusals.specs.declared.Refusal.the-variants.{Lent, Slot}
 use Rattle.form1.specs.Form1.{rangeOf, each, refusal}
 use Rattle.card.specs.Reading.{Header, lentTooShort, reads, reading, noSlot, looking}
 
--- each refuses with the number that is given, and in no other situation
-pub reader-refuses : (file : List ℕ) (los his : List ℤ) (n : ℕ) →
-    (reading file los his .answer ≡ refuses n) ↔ (refusal (row 17 (lentTooShort los his file)) file ≡ some n)
+-- each refuses with the refusal that is given, and in no other situation
+pub reader-refuses : (file : List ℕ) (los his : List ℤ) (r : Refusal) →
+    (reading file los his .answer ≡ refuses r) ↔ (refusal (row Lent (lentTooShort los his file)) file ≡ some r)
 unfolding reading reads
-reader-refuses file los his n = refused-by (refusal (row 17 (lentTooShort los his file)) file) _ n
+reader-refuses file los his r = refused-by (refusal (row Lent (lentTooShort los his file)) file) _ r
 
-pub look-up-refuses : (slot : ℕ) (file : List ℕ) (n : ℕ) →
-    (looking slot file ≡ refuses n) ↔ (refusal (row 19 (noSlot slot file)) file ≡ some n)
+pub look-up-refuses : (slot : ℕ) (file : List ℕ) (r : Refusal) →
+    (looking slot file ≡ refuses r) ↔ (refusal (row Slot (noSlot slot file)) file ≡ some r)
 unfolding looking
-look-up-refuses slot file n = refused-by (refusal (row 19 (noSlot slot file)) file) _ n
+look-up-refuses slot file r = refused-by (refusal (row Slot (noSlot slot file)) file) _ r
 
 module _ (file : List ℕ) (los his : List ℤ) where
-  pub nothing-altered : {n : ℕ} → reads los his file ≡ refuses n →
-      record { answer = refuses n; lowest = los; highest = his } ≡ reading file los his
+  pub nothing-altered : {r : Refusal} → reads los his file ≡ refuses r →
+      record { answer = refuses r; lowest = los; highest = his } ≡ reading file los his
   unfolding reading
   nothing-altered e = rw e refl
 
-  pub refused-unaltered : (n : ℕ) → reading file los his .answer ≡ refuses n →
+  pub refused-unaltered : (r : Refusal) → reading file los his .answer ≡ refuses r →
       (reading file los his .lowest ≡ los) × (reading file los his .highest ≡ his)
   unfolding reading
-  refused-unaltered n e = rw e (refl, refl)
+  refused-unaltered r e = rw e (refl, refl)
 
   pub records-put : (header : Header) {los′ his′ : List ℤ} → reads los his file ≡ gives header →
       los′ ≡ each (header .n) (λ slot. rangeOf slot file .lowest) ++ drop (header .n) los →

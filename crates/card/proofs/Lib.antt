@@ -1,4 +1,3 @@
 pub mod Agreeing
 pub mod Answering
 mod Filling
-pub mod Told

@@ -6,10 +6,11 @@ use mathlib.Core.Path.{_≡_}
 use lib.Dec.{leb, ltb}
 use lib.IntN.{ℤ, pos}
 use lib.ListN.{length, getD, drop}
-use Rattle.rule.specs.Ranges.{Range}
+use Rattle.rule.specs.Ranges.{range}
+use Rattle.rule.specs.declared.Range.{Range}
 use Rattle.refusals.specs.Answer.{Answer, refuses, gives, answer}
-use Rattle.refusals.specs.Numbers.{fileNumber}
 use Rattle.refusals.specs.Table.{row}
+use Rattle.refusals.specs.declared.Refusal.the-variants.{Lent, Slot}
 use Rattle.settings.specs.declared.Settings.{Settings}
 use Rattle.form1.specs.Form1.{slots, settings, rangeOf, each, refusal}
 use Rattle.card.specs.declared.Reading.{Reading}
@@ -29,7 +30,7 @@ pub record Header : Type 0 where
   pub n : ℕ
 
 abbrev pub told : Reading → Answer Header
-told (Reading·Refused r) = refuses (fileNumber r)
+told (Reading·Refused r) = refuses r
 told (Taken s n) = gives (record { settings = s; n = n })
 
 -- all that comes back: the answer, and what both slices hold then
@@ -43,14 +44,14 @@ handed r los his = record { answer = told r; lowest = los; highest = his }
 
 -- the first n places hold the records, no later place is altered; on a refusal none is
 abbrev pub filled : Answer Header → (ℕ → ℤ) → List ℤ → List ℤ
-filled (refuses number) f places = places
+filled (refuses r) f places = places
 filled (gives header) f places = each (header .n) f ++ drop (header .n) places
 
 -- the file place alone is checked: the settings are not judged
 unfoldable pub reads : (lowest highest : List ℤ) → List ℕ → Answer Header
 reads los his file =
     answer
-    (refusal (row 17 (lentTooShort los his file)) file)
+    (refusal (row Lent (lentTooShort los his file)) file)
     (record { settings = settings file; n = slots file })
 
 unfoldable pub reading : List ℕ → (lowest highest : List ℤ) → Outcome
@@ -68,12 +69,12 @@ unfoldable pub noSlot : (slot : ℕ) → List ℕ → Bool
 noSlot slot file = leb (slots file) slot
 
 abbrev pub shown : Found → Answer Range
-shown (Found·Refused r) = refuses (fileNumber r)
-shown (Record lo hi) = gives (record { lowest = lo; highest = hi })
+shown (Found·Refused r) = refuses r
+shown (Record found) = gives found
 
 -- what a look-up gives; it depends on nothing but the bytes and the slot number
 unfoldable pub looking : (slot : ℕ) → List ℕ → Answer Range
-looking slot file = answer (refusal (row 19 (noSlot slot file)) file) (rangeOf slot file)
+looking slot file = answer (refusal (row Slot (noSlot slot file)) file) (rangeOf slot file)
 
 -- For every file that the reader takes, the look-up at slot i gives what the reader puts at place i (proofs/Agreeing.antt).
 abbrev pub Agree : Type 0
@@ -81,4 +82,4 @@ Agree =
     (file : List ℕ) (los his : List ℤ) (i : ℕ) (header : Header) →
     reading file los his .answer ≡ gives header → i < header .n →
     let o = reading file los his in
-    looking i file ≡ gives (record { lowest = getD (o .lowest) i (pos 0); highest = getD (o .highest) i (pos 0) })
+    looking i file ≡ gives (range (getD (o .lowest) i (pos 0)) (getD (o .highest) i (pos 0)))

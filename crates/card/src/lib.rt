@@ -4,7 +4,8 @@ ghost use Rattle.card.specs.Reading.{handed, reading};
 use crate::records::fill;
 use form1::Opened;
 use form1::open;
-use refusals::FileRefusal;
+use refusals::Refusal;
+use rule::Range;
 use settings::Settings;
 
 mod lookup;
@@ -14,14 +15,14 @@ pub use lookup::look_up;
 
 // What the reader answers besides the loads.
 pub enum Reading {
-    Refused(FileRefusal),
+    Refused(Refusal),
     Taken { settings: Settings, n: usize },
 }
 
 // What a look-up answers.
 pub enum Found {
-    Refused(FileRefusal),
-    Record { lowest: i32, highest: i32 },
+    Refused(Refusal),
+    Record(Range),
 }
 
 // Gives the first refusal that applies, or the settings and n, as the file has them. Only in the latter case it writes: the
@@ -35,10 +36,10 @@ pub fn read(file: &[u8], lowest: &mut [i32], highest: &mut [i32]) -> Reading
         Opened::Whole(contents) => {
             let n = contents.n;
             if lowest.len() < n {
-                return Reading::Refused(FileRefusal::Lent);
+                return Reading::Refused(Refusal::Lent);
             }
             if highest.len() < n {
-                return Reading::Refused(FileRefusal::Lent);
+                return Reading::Refused(Refusal::Lent);
             }
             fill(file, contents.start, n, lowest, highest);
             let settings = contents.settings;

@@ -6,7 +6,7 @@ use form1::Opened;
 use form1::RECORD;
 use form1::open;
 use form1::range_at;
-use refusals::FileRefusal;
+use refusals::Refusal;
 
 // Gives the first refusal that applies, or the load range of the slot.
 pub fn look_up(file: &[u8], slot: usize) -> Found
@@ -16,13 +16,9 @@ pub fn look_up(file: &[u8], slot: usize) -> Found
         Opened::Refused(refusal) => Found::Refused(refusal),
         Opened::Whole(contents) => {
             if contents.n <= slot {
-                return Found::Refused(FileRefusal::Slot);
+                return Found::Refused(Refusal::Slot);
             }
-            let bounds = range_at(file, contents.start + RECORD * slot);
-            Found::Record {
-                lowest: bounds.lowest,
-                highest: bounds.highest,
-            }
+            Found::Record(range_at(file, contents.start + RECORD * slot))
         }
     }
 }

@@ -18,9 +18,9 @@ pub(crate) fn fill(file: &[u8], start: usize, n: usize, lowest: &mut [i32], high
 {
     let mut slot = 0;
     while slot < n {
-        let bounds = range_at(file, start + RECORD * slot);
-        let low = bounds.lowest;
-        let high = bounds.highest;
+        let range = range_at(file, start + RECORD * slot);
+        let low = range.lowest;
+        let high = range.highest;
         lowest[slot] = low;
         highest[slot] = high;
         slot += 1;

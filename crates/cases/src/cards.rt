@@ -1,7 +1,6 @@
 // What a form 1 file holds.
 use crate::filtered::request;
 use crate::numbers::MANY;
-use crate::numbers::SLOTS;
 use crate::numbers::bytes;
 use crate::numbers::second;
 use crate::show::count;
@@ -13,7 +12,9 @@ use crate::show::write;
 use crate::text::HEXADECIMAL;
 use card::Found;
 use card::Reading;
+use rule::Shape;
 use settings::CountRange;
+use settings::PLACES;
 use settings::Settings;
 
 // `read`: nothing; the bytes of a file.
@@ -27,7 +28,7 @@ pub fn read(line: &[u8]) {
 // The slots through a view, up to the first refusal.
 fn records(file: &[u8]) {
     let mut slot = 0;
-    while slot < SLOTS {
+    while slot < PLACES {
         if !viewed(file, slot) {
             return;
         }
@@ -41,13 +42,13 @@ fn viewed(file: &[u8], slot: usize) -> bool {
     match found {
         Found::Refused(refusal) => {
             write(b" ");
-            refused(refusal.number());
+            refused(refusal);
             line_feed();
             false
         }
-        Found::Record { lowest, highest } => {
-            signed(b" ", lowest);
-            signed(b"..", highest);
+        Found::Record(range) => {
+            signed(b" ", range.lowest);
+            signed(b"..", range.highest);
             line_feed();
             true
         }
@@ -56,11 +57,11 @@ fn viewed(file: &[u8], slot: usize) -> bool {
 
 // What the reader gives, and the filter for it.
 fn file(file: &[u8]) {
-    let mut lowest = [0i32; SLOTS];
-    let mut highest = [0i32; SLOTS];
+    let mut lowest = [0i32; PLACES];
+    let mut highest = [0i32; PLACES];
     match card::read(file, &mut lowest, &mut highest) {
         Reading::Refused(refusal) => {
-            refused(refusal.number());
+            refused(refusal);
             line_feed();
         }
         Reading::Taken { settings, n } => {
@@ -72,11 +73,15 @@ fn file(file: &[u8]) {
 
 fn asked(settings: Settings) {
     signed(b"k ", settings.k);
-    count(b" len ", settings.len);
-    count(b" h ", settings.h);
+    shape(settings.shape);
     counts(b" windows ", settings.windows);
     counts(b" covered ", settings.covered);
     line_feed();
+}
+
+fn shape(shape: Shape) {
+    count(b" len ", shape.len);
+    count(b" h ", shape.h);
 }
 
 fn counts(word: &[u8], range: CountRange) {

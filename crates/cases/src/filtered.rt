@@ -1,8 +1,8 @@
 // What the filter gives.
 ghost use Prim.Native.Nat.{_≤_};
 ghost use lib.ListN.{length};
+ghost use Rattle.settings.specs.Refusals.{places};
 use crate::judged::said;
-use crate::numbers::SLOTS;
 use crate::numbers::numbers;
 use crate::numbers::second;
 use crate::numbers::settings;
@@ -12,22 +12,23 @@ use crate::text::DECIMAL;
 use filter::Answer;
 use filter::filter;
 use judge::judge;
+use settings::PLACES;
 use settings::Settings;
 
 // `filter`: the settings; the lowest loads; the highest loads.
 pub fn filtered(line: &[u8]) {
-    let mut lowest = [0i32; SLOTS];
+    let mut lowest = [0i32; PLACES];
     let n = numbers(line, second(line), DECIMAL, &mut lowest);
-    let mut highest = [0i32; SLOTS];
+    let mut highest = [0i32; PLACES];
     let m = numbers(line, third(line), DECIMAL, &mut highest);
     request(settings(line), n, m, &mut lowest, &mut highest);
 }
 
 // A request of the first n lowest and the first m highest loads.
 pub fn request(settings: Settings, n: usize, m: usize, lowest: &mut [i32], highest: &mut [i32])
-    requires { ⌜ (n ≤ length (now lowest)) × (m ≤ length (now highest)) × (n ≤ 65) ⌝ }
+    requires { ⌜ (n ≤ length (now lowest)) × (m ≤ length (now highest)) × (n ≤ places) ⌝ }
 {
-    let mut marks = [0u8; SLOTS];
+    let mut marks = [0u8; PLACES];
     planned(
         settings,
         &mut lowest[..n],
@@ -50,10 +51,7 @@ fn listed(answer: Answer, lowest: &[i32], highest: &[i32], marks: &[u8]) {
 }
 
 fn allowed(answer: Answer, settings: Settings, lowest: &mut [i32], highest: &[i32], marks: &[u8]) {
-    if let Answer::Planned {
-        windows: _,
-        covered: _,
-    } = answer {
+    if let Answer::Planned(_) = answer {
         settle(lowest, highest, marks);
         write(b"judge ");
         said(judge(settings, lowest, marks));

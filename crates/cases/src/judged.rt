@@ -1,5 +1,4 @@
 // What the judge says, and which plan the chooser hands back.
-use crate::numbers::SLOTS;
 use crate::numbers::bytes;
 use crate::numbers::numbers;
 use crate::numbers::second;
@@ -14,12 +13,13 @@ use crate::text::behind;
 use chooser::choose;
 use judge::Verdict;
 use judge::judge;
+use settings::PLACES;
 
 // `judge`: the settings; the loads; the marks.
 pub fn judged(line: &[u8]) {
-    let mut loads = [0i32; SLOTS];
+    let mut loads = [0i32; PLACES];
     let n = numbers(line, second(line), DECIMAL, &mut loads);
-    let mut marks = [0u8; SLOTS];
+    let mut marks = [0u8; PLACES];
     let m = bytes(line, third(line), DECIMAL, &mut marks);
     said(judge(settings(line), &loads[..n], &marks[..m]));
 }
@@ -32,19 +32,19 @@ pub fn said(verdict: Verdict) {
             count(b" ", covered);
         }
         Verdict::No => write(b"no"),
-        Verdict::Refused(refusal) => refused(refusal.number()),
+        Verdict::Refused(refusal) => refused(refusal),
     }
     line_feed();
 }
 
 // `choose`: the settings; the loads; the marks of two plans.
 pub fn chosen(line: &[u8]) {
-    let mut loads = [0i32; SLOTS];
+    let mut loads = [0i32; PLACES];
     let n = numbers(line, second(line), DECIMAL, &mut loads);
-    let mut first = [0u8; SLOTS];
+    let mut first = [0u8; PLACES];
     let at = third(line);
     let m = bytes(line, at, DECIMAL, &mut first);
-    let mut other = [0u8; SLOTS];
+    let mut other = [0u8; PLACES];
     let o = bytes(line, behind(line, at, b';'), DECIMAL, &mut other);
     plan(choose(settings(line), &loads[..n], &first[..m], &other[..o]));
 }

@@ -6,13 +6,12 @@ use crate::text::DECIMAL;
 use crate::text::Number;
 use crate::text::behind;
 use crate::text::number_at;
+use rule::Shape;
 use settings::CountRange;
 use settings::Settings;
 
-// The most numbers of a first field; of loads and of marks, one more than a plan may have; and of any other field.
+// The most numbers of a first field, and of any other; of loads and of marks it is PLACES, one more than a plan may have.
 const FIRST: usize = 7;
-
-pub const SLOTS: usize = 65;
 
 pub const MANY: usize = 130;
 
@@ -107,10 +106,16 @@ pub fn short(line: &[u8], i: usize) -> u16
 pub fn settings(line: &[u8]) -> Settings {
     Settings {
         k: first(line, 0),
-        len: short(line, 1),
-        h: short(line, 2),
+        shape: shape(line),
         windows: range(line, 3),
         covered: range(line, 5),
+    }
+}
+
+pub fn shape(line: &[u8]) -> Shape {
+    Shape {
+        len: short(line, 1),
+        h: short(line, 2),
     }
 }
 

@@ -1,6 +1,7 @@
 // Words and numbers on standard output.
 use crate::numbers::magnitude;
 use libc::STDOUT_FILENO;
+use refusals::Refusal;
 
 pub fn write(text: &[u8]) {
     io::write_all(STDOUT_FILENO, text);
@@ -24,8 +25,8 @@ pub fn signed(word: &[u8], x: i32) {
     io::print_decimal(STDOUT_FILENO, magnitude(x) as u64);
 }
 
-pub fn refused(code: u16) {
-    count(b"refused ", code);
+pub fn refused(refusal: Refusal) {
+    count(b"refused ", refusal.number());
 }
 
 pub fn line_feed() {

@@ -1,9 +1,9 @@
 // What the watch does, load by load.
-use crate::numbers::SLOTS;
 use crate::numbers::first;
 use crate::numbers::long;
 use crate::numbers::numbers;
 use crate::numbers::second;
+use crate::numbers::shape;
 use crate::numbers::short;
 use crate::numbers::third;
 use crate::show::count;
@@ -12,6 +12,7 @@ use crate::show::number;
 use crate::show::refused;
 use crate::show::write;
 use crate::text::DECIMAL;
+use settings::PLACES;
 use watch::Answer;
 use watch::Started;
 use watch::Watch;
@@ -22,14 +23,14 @@ pub fn watched(line: &[u8]) {
     match started {
         Started::Watching(watch) => onward(rounds(watch, line), line),
         Started::Refused(refusal) => {
-            refused(refusal.number());
+            refused(refusal);
             line_feed();
         }
     }
 }
 
 fn start(line: &[u8]) -> Started {
-    Watch::start(first(line, 0), short(line, 1), short(line, 2))
+    Watch::start(first(line, 0), shape(line))
 }
 
 // `step`, from a given state: k, len, h, the slots taken, the windows, and the slots and bridges left to the living one; the
@@ -48,7 +49,7 @@ pub fn stepped(line: &[u8]) {
 }
 
 fn rounds(watch: Watch, line: &[u8]) -> Watch {
-    let mut loads = [0i32; SLOTS];
+    let mut loads = [0i32; PLACES];
     let m = numbers(line, third(line), DECIMAL, &mut loads);
     each_round(watch, &loads[..m], long(line, 3))
 }
@@ -67,7 +68,7 @@ fn each_round(watch: Watch, loads: &[i32], n: u32) -> Watch {
 // The state, and what each load leads to.
 fn onward(watch: Watch, line: &[u8]) {
     state(watch);
-    let mut loads = [0i32; SLOTS];
+    let mut loads = [0i32; PLACES];
     let n = numbers(line, second(line), DECIMAL, &mut loads);
     each_step(watch, &loads[..n]);
 }
@@ -101,7 +102,7 @@ fn answered(answer: Answer) {
             }
         }
         Answer::Refused(refusal) => {
-            refused(refusal.number());
+            refused(refusal);
             write(b": ");
         }
     }

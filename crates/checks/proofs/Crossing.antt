@@ -10,6 +10,7 @@ use lib.IntN.{ℤ, pos}
 use lib.ListN.{length, drop, drop-of-length-le}
 use lib.Seq.{drop-cons}
 use lib.Signed.{ltZ}
+use Rattle.refusals.specs.declared.Refusal.the-variants.{Crossed}
 use Rattle.requests.specs.Request.{at, paired, crossed}
 
 -- Before slot i no ranges cross.
@@ -24,12 +25,12 @@ module _ {los his : List ℤ} where
   module _ (i : ℕ) (wide : length his ≡ length los) (u : Uncrossed los his i) where
     -- slot i crosses, or the first crossing is behind it
     one-met : i < length los →
-        cond (ltZ (at his i) (at los i)) (some i) (crossed (suc i) (paired (drop (suc i) los) (drop (suc i) his)))
+        cond (ltZ (at his i) (at los i)) (some (Crossed i)) (crossed (suc i) (paired (drop (suc i) los) (drop (suc i) his)))
         ≡ crossed 0 (paired los his)
     unfolding crossed
     one-met e = rw (drop-cons los i (pos 0) e, drop-cons his i (pos 0) (omega arith)) at (u .same)
 
-    pub met-here : i < length los → ltZ (at his i) (at los i) ≡ true → some i ≡ crossed 0 (paired los his)
+    pub met-here : i < length los → ltZ (at his i) (at los i) ≡ true → some (Crossed i) ≡ crossed 0 (paired los his)
     met-here e c = rw c at (one-met e)
 
     pub met-later : i < length los → ltZ (at his i) (at los i) ≡ false → Uncrossed los his (i + 1)

@@ -9,10 +9,11 @@ use denote.Ref.{RefT, now}
 use lib.Dec.{ltb}
 use lib.IntN.{ℤ}
 use lib.ListN.{length}
-use Rattle.settings.proofs.Passing.{passing}
+use Rattle.refusals.specs.Answer.{refuses, gives}
+use Rattle.settings.proofs.Passing.{same, passing}
 use Rattle.settings.specs.declared.Settings.{Settings}
 use Rattle.judge.proofs.Allowing.{said}
-use Rattle.judge.specs.Judgment.{Judgment, says, refuses, judgment}
+use Rattle.judge.specs.Judgment.{Judgment, says, judgment}
 use Rattle.chooser.specs.Choice.{fewer, choice, EmptyPart, HandsBack, Chosen, Yes, No, Refuses, Chooses}
 use Rattle.chooser.specs.declared.Choice.{Choice}
 use Rattle.chooser.specs.declared.Choice.the-variants.{First, Second}
@@ -29,8 +30,8 @@ one-of w₁ c₁ w₂ c₂ = by (ltb w₂ w₁) (ltb w₁ w₂) (ltb c₂ c₁)
     by false false false = inl refl
 
 abbrev code : Judgment → ℕ
-code (says false w c) = 0
-code (says true w c) = 1
+code (gives (says false w c)) = 0
+code (gives (says true w c)) = 1
 code (refuses n) = 2
 
 module _ (s : Settings) (loads : List ℤ) (a b r : RefT (List ℕ)) where
@@ -53,7 +54,7 @@ module _ (s : Settings) (loads : List ℤ) (a b r : RefT (List ℕ)) where
   not-empty : Plan → EmptyPart a r → ⊥
   not-empty (_, (w, c, y)) (_, e) =
       let pass = passing .0 (said s loads (now r) w c y .0) in
-      absurd (omega (arith, pass .slots .0, pass .same .0, ap length e))
+      absurd (omega (arith, pass .1 .slots .0, same _ _ .0 (pass .0), ap length e))
 
   no-cause : (one two : Judgment) → Says a one → Says b two → code one < 2 → code two < 2 → 1 ≤ code one + code two → Cause → ⊥
   no-cause one two i j f g h (inl (n, e)) = absurd (omega (arith, f, ap code (sym i ∙ e)))
@@ -71,14 +72,14 @@ module _ (s : Settings) (loads : List ℤ) (a b r : RefT (List ℕ)) where
   either x (inr is) y z e = second (subst (λ x. HandsBack x a b r) is e) z
 
   by : (one two : Judgment) → Says a one → Says b two → HandsBack (choice one two) a b r → Chooses s loads a b r
-  by (says true w c) (says true v d) i j e =
+  by (gives (says true w c)) (gives (says true v d)) i j e =
       plan-chosen (either (fewer w c v d) (one-of w c v d) (w, c, i) (v, d, j) e)
       (no-cause _ _ i j (omega arith) (omega arith) (omega arith))
-  by (says true w c) (says false v d) i j e = plan-chosen (first e (w, c, i)) (no-cause _ _ i j (omega arith) (omega arith) (omega arith))
-  by (says false w c) (says true v d) i j e = plan-chosen (second e (v, d, j)) (no-cause _ _ i j (omega arith) (omega arith) (omega arith))
-  by (says false w c) (says false v d) i j e = none-chosen (inr (inr ((w, c, i), (v, d, j)))) e
-  by (says true w c) (refuses n) i j e = none-chosen (inr (inl (n, j))) e
-  by (says false w c) (refuses n) i j e = none-chosen (inr (inl (n, j))) e
+  by (gives (says true w c)) (gives (says false v d)) i j e = plan-chosen (first e (w, c, i)) (no-cause _ _ i j (omega arith) (omega arith) (omega arith))
+  by (gives (says false w c)) (gives (says true v d)) i j e = plan-chosen (second e (v, d, j)) (no-cause _ _ i j (omega arith) (omega arith) (omega arith))
+  by (gives (says false w c)) (gives (says false v d)) i j e = none-chosen (inr (inr ((w, c, i), (v, d, j)))) e
+  by (gives (says true w c)) (refuses n) i j e = none-chosen (inr (inl (n, j))) e
+  by (gives (says false w c)) (refuses n) i j e = none-chosen (inr (inl (n, j))) e
   by (refuses n) two i j e = none-chosen (inl (n, i)) e
 
   pub chooses : Chosen s loads a b r → Chooses s loads a b r

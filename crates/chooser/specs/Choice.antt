@@ -9,22 +9,26 @@ use lib.IntN.{ℤ}
 use denote.Ref.{RefT, ptr, now}
 use Rattle.chooser.specs.declared.Choice.{Choice}
 use Rattle.chooser.specs.declared.Choice.the-variants.{First, Second, Neither}
+use Rattle.refusals.specs.Answer.{refuses, gives}
+use Rattle.refusals.specs.declared.Refusal.{Refusal}
 use Rattle.settings.specs.declared.Settings.{Settings}
-use Rattle.judge.specs.Judgment.{Judgment, says, refuses, judgment}
+use Rattle.judge.specs.Judgment.{Said, says, Judgment, judgment}
 
 -- fewer windows, then fewer covered slots, then the first
 unfoldable pub fewer : (w₁ c₁ w₂ c₂ : ℕ) → Choice
 fewer w₁ c₁ w₂ c₂ = cond (ltb w₂ w₁) Second (cond (ltb w₁ w₂) First (cond (ltb c₂ c₁) Second First))
 
 -- one that the judge says yes to beats one that it says no to; yes to neither, or any refusal, is neither
+abbrev better : (one two : Said) → Choice
+better (says true w₁ c₁) (says true w₂ c₂) = fewer w₁ c₁ w₂ c₂
+better (says true w₁ c₁) (says false w₂ c₂) = First
+better (says false w₁ c₁) (says true w₂ c₂) = Second
+better (says false w₁ c₁) (says false w₂ c₂) = Neither
+
 abbrev pub choice : (one two : Judgment) → Choice
-choice (says true w₁ c₁) (says true w₂ c₂) = fewer w₁ c₁ w₂ c₂
-choice (says true w₁ c₁) (says false w₂ c₂) = First
-choice (says false w₁ c₁) (says true w₂ c₂) = Second
-choice (says false w₁ c₁) (says false w₂ c₂) = Neither
-choice (says true w₁ c₁) (refuses n) = Neither
-choice (says false w₁ c₁) (refuses n) = Neither
-choice (refuses n) two = Neither
+choice (gives one) (gives two) = better one two
+choice (gives one) (refuses r) = Neither
+choice (refuses r) two = Neither
 
 -- r is the empty part at the start of a
 abbrev pub EmptyPart : (a r : RefT (List ℕ)) → Type 0
@@ -41,13 +45,13 @@ Chosen s loads a b r = HandsBack (choice (judgment s loads (now a)) (judgment s 
 
 -- what the judge says of a lent plan
 abbrev pub Yes : Settings → List ℤ → RefT (List ℕ) → Type 0
-Yes s loads a = (w : ℕ) × (c : ℕ) × (judgment s loads (now a) ≡ says true w c)
+Yes s loads a = (w : ℕ) × (c : ℕ) × (judgment s loads (now a) ≡ gives (says true w c))
 
 abbrev pub No : Settings → List ℤ → RefT (List ℕ) → Type 0
-No s loads a = (w : ℕ) × (c : ℕ) × (judgment s loads (now a) ≡ says false w c)
+No s loads a = (w : ℕ) × (c : ℕ) × (judgment s loads (now a) ≡ gives (says false w c))
 
 abbrev pub Refuses : Settings → List ℤ → RefT (List ℕ) → Type 0
-Refuses s loads a = (n : ℕ) × (judgment s loads (now a) ≡ refuses n)
+Refuses s loads a = (q : Refusal) × (judgment s loads (now a) ≡ refuses q)
 
 -- What the chosen one can be (proofs/Choosing.antt).
 pub record Chooses (s : Settings) (loads : List ℤ) (a b r : RefT (List ℕ)) : Type 0 where

@@ -1,29 +1,31 @@
 -- What specs/Demands.antt states, each line from where it is proved.
 use Prim.Native.Nat.{ℕ}
 use native.Mathlib.Omega.{arith}
-use mathlib.Core.Bool.{true}
-use mathlib.Core.List.{List, [], _∷_}
+use mathlib.Core.Bool.{true, false}
+use mathlib.Core.List.{List}
 use mathlib.Core.Logic.{_↔_}
 use mathlib.Core.Option.{none}
 use mathlib.Core.Path.{_≡_, refl, _∙_}
 use lib.IntN.{ℤ}
 use lib.ListN.{length}
 use Rattle.card.proofs.Agreeing.{agree}
-use Rattle.card.proofs.Told.{told-apart as Reading·told-apart, shown-apart}
 use Rattle.card.proofs.Answering.{reader-refuses, look-up-refuses, refused-unaltered}
 use Rattle.c_api.proofs.Meaning.{means, verdict-means}
 use Rattle.c_api.proofs.WatchMeaning.{start-means, step-means}
 use Rattle.chooser.proofs.Choosing.{chooses}
 use Rattle.judge.proofs.Allowing.{Allowed, allowing, saying, said, refusing}
-use Rattle.judge.proofs.Told.{told-apart as Verdict·told-apart}
 use Rattle.form1.proofs.Drawing.{read-back}
 use Rattle.form1.proofs.Redrawing.{drawn-only}
 use Rattle.listing.proofs.Cases.{cases as texts}
 use Rattle.listing.proofs.Decimals.{decimals}
 use Rattle.rule.proofs.Onward.{as-long}
+use Rattle.refusals.proofs.Numbered.{same-refusal}
+use Rattle.refusals.specs.Answer.{gives}
 use Rattle.judge.specs.Judgment.{says, judgment}
+use Rattle.settings.proofs.Passing.{same as same-lengths}
 use Rattle.settings.specs.Refusals.{refusal}
-use Rattle.rule.specs.Rule.{carries, windows, covered}
+use Rattle.rule.specs.Rule.{carries, shaped}
+use Rattle.rule.specs.declared.Shape.{Shape}
 use Rattle.settings.specs.declared.Settings.{Settings}
 use Rattle.published.proofs.Corners.{recount}
 use Rattle.published.proofs.Examples.{examples}
@@ -39,9 +41,8 @@ use Rattle.requests.proofs.Outcomes.{unaltered-so, refused-so}
 use Rattle.watch.proofs.Counting.{least, case-l}
 use Rattle.watch.proofs.Origins.{sound→reached}
 use Rattle.watch.proofs.Reaching.{reached→sound}
-use Rattle.watch.proofs.RunningOn.{runs-on, run-numbers}
+use Rattle.watch.proofs.RunningOn.{runs-on, run-refusals}
 use Rattle.watch.proofs.Starting
-use Rattle.watch.proofs.Stepping.{two-numbers}
 use Rattle.demands.proofs.Measure.{delivers, delivers-covered}
 use Rattle.demands.proofs.Watching.{counting}
 use Rattle.demands.specs.Demands.{Demand1, Judges, Demand2, Established, Contracts, Demands}
@@ -64,72 +65,79 @@ use Rattle.c_api.proofs.icecoppice_watch_start as CStart
 use Rattle.c_api.proofs.icecoppice_watch_step as CStep
 use Rattle.rule.proofs.over as Over
 use Rattle.settings.proofs.check as Check
+use Rattle.settings.proofs.check_lengths as CheckLengths
+use Rattle.settings.proofs.check_settings as CheckSettings
+use Rattle.settings.proofs.check_shape as CheckShape
+use Rattle.settings.proofs.differ as Differ
 use Rattle.checks.proofs.check_request as CheckRequest
 use Rattle.rule.proofs.class_of as ClassOf
 use Rattle.least.proofs.low as Low
 use Rattle.least.proofs.rows as Rows
 use Rattle.form1.proofs.open as Open
 use Rattle.form1.proofs.range_at as RangeAt
-use Rattle.refusals.proofs.FileRefusal.number as FileNumber
-use Rattle.refusals.proofs.SettingsRefusal.number as SettingsNumber
-use Rattle.refusals.proofs.StepRefusal.number as StepNumber
+use Rattle.refusals.proofs.Refusal.number as Number
+use Rattle.refusals.proofs.Refusal.slot as RefusedSlot
 
 demand1 : Demand1
 demand1 =
     record {
       filter = refused-so;
+      judge = refusing;
+      start = Starting.refusing;
+      reader = reader-refuses;
+      look-up = look-up-refuses;
       decided = alike;
       unaltered = unaltered-so;
-      judge = refusing;
       chooser = chooses;
-      start = Starting.refusing;
-      step = λ w load r s n e. (two-numbers (r .answer) n e, s .kept n e);
-      run = λ w v loads taken n r. run-numbers r;
+      step = λ w load r s. s .kept;
+      run = λ w v loads taken f r. run-refusals r;
       run-on = runs-on;
-      reader = reader-refuses;
       reader-unaltered = refused-unaltered;
-      look-up = look-up-refuses;
       filter-for-c = λ r numbers los his ms a. means a;
       judge-for-c = verdict-means;
       start-for-c = start-means;
-      step-for-c = step-means;
+      step-for-c = λ w load numbers s. step-means s;
+      numbers = same-refusal;
     }
 
 -- the judge by a definition that is a corner of the rule on windows
 module _ (s : Settings) (X : List ℤ) (D : List Run → Type 0)
-    (corner : (S : List Run) → D S ↔ Obeys (s .k) (s .len) (s .h) (s .windows .most) (s .covered .most) X S) where
-  sound : (ms : List ℕ) (w c : ℕ) → judgment s X ms ≡ says true w c →
+    (corner : (S : List Run) → D S ↔ Obeys (s .k) (s .shape) (s .windows .most) (s .covered .most) X S) where
+  sound : (ms : List ℕ) (w c : ℕ) → judgment s X ms ≡ gives (says true w c) →
       D (runs 0 ms) × (length (runs 0 ms) ≡ w) × (sum size (runs 0 ms) ≡ c)
   sound ms w c j =
       let (e, a, ew, ec) = said s X ms w c j in
       let allow : Allowed s X ms = allowing .0 a in
-      let (o, number, summed) = theorems .draws (s .k) (s .len) (s .h) X ms (allow .in-rule) in (
+      let (o, number, summed) = theorems .draws (s .k) (s .shape) X ms (allow .in-rule) in (
         corner (runs 0 ms) .1
-            (recount X _ _ _ _ _ _ o (omega (arith, number, allow .windows-fit)) (omega (arith, summed, allow .covered-fit))),
+            (recount X _ _ _ _ _ o (omega (arith, number, allow .windows-fit)) (omega (arith, summed, allow .covered-fit))),
         number ∙ ew,
         summed ∙ ec,
       )
 
-  complete : refusal (length X) (length X ∷ []) s ≡ none → (S : List Run) → D S →
-      (ms : List ℕ) × (judgment s X ms ≡ says true (length S) (sum size S)) × (runs 0 ms ⊆ S) × (S ⊆ runs 0 ms)
+  complete : refusal (length X) false s ≡ none → (S : List Run) → D S →
+      (ms : List ℕ) × (judgment s X ms ≡ gives (says true (length S) (sum size S))) × (runs 0 ms ⊆ S) × (S ⊆ runs 0 ms)
   complete e S d =
       let o = corner S .0 d in
-      let (ms, legal, into, onto, number, summed) = theorems .drawn (s .k) (s .len) (s .h) _ _ X S o in
+      let (ms, legal, into, onto, number, summed) = theorems .drawn (s .k) (s .shape) _ _ X S o in
       let allow : Allowed s X ms = record {
         in-rule = legal;
         windows-fit = omega (arith, number, o .number);
         covered-fit = omega (arith, summed, o .summed);
       } in
-      let same : length ms ≡ length X = as-long (carries (s .k)) (s .len) (s .h) X ms legal in
-      let j : judgment s X ms ≡ says true (windows ms) (covered ms) = saying s X ms (rw same e) (allowing .1 allow) in
+      let same : length ms ≡ length X = as-long (carries (s .k)) (s .shape) X ms legal in
+      let j = saying s X ms (rw (same-lengths _ _ .1 same) e) (allowing .1 allow) in
       (ms, rw (← number, ← summed) j, into, onto)
 
   judging : Judges s X D
   judging = record { sound = sound; complete = complete }
 
 -- the four definitions at settings
-corners : (s : Settings) (X : List ℤ) (yc zc : ℕ) (S : List Run) → Corners X yc (s .len) (s .h) (s .k) zc S
+corners : (s : Settings) (X : List ℤ) (yc zc : ℕ) (S : List Run) → Corners X yc (s .shape .len) (s .shape .h) (s .k) zc S
 corners s X yc zc S = theorems .corners X yc _ _ _ zc S
+
+no-bridges : (shape : Shape) → shape .h ≡ 0 → shape ≡ shaped (shape .len) 0
+no-bridges shape e = λ i. record { len = shape .len; h = e i }
 
 demand2 : Demand2
 demand2 =
@@ -139,15 +147,15 @@ demand2 =
         delivers-covered r (f .well) _ (λ X n zc S. corners (r .settings) X (r .settings .windows .most) zc S .weightedSpringy) o (f .kept),
       );
       weighted = λ r o f h. (
-        delivers r (f .well) _ (λ X n yc S. rw h (corners (r .settings) X yc (r .settings .covered .most) S .weighted)) o (f .kept),
-        delivers-covered r (f .well) _ (λ X n zc S. rw h (corners (r .settings) X (r .settings .windows .most) zc S .weighted)) o (f .kept),
+        delivers r (f .well) _ (λ X n yc S. rw (no-bridges (r .settings .shape) h) (corners (r .settings) X yc (r .settings .covered .most) S .weighted)) o (f .kept),
+        delivers-covered r (f .well) _ (λ X n zc S. rw (no-bridges (r .settings .shape) h) (corners (r .settings) X (r .settings .windows .most) zc S .weighted)) o (f .kept),
       );
       springy = λ r o f most. delivers r (f .well) _ (λ X n yc S. rw (most, ← n) (corners (r .settings) X yc 0 S .springy)) o (f .kept);
-      focus = λ r o f h most. delivers r (f .well) _ (λ X n yc S. rw (h, most, ← n) (corners (r .settings) X yc 0 S .focus)) o (f .kept);
+      focus = λ r o f h most. delivers r (f .well) _ (λ X n yc S. rw (no-bridges (r .settings .shape) h, most, ← n) (corners (r .settings) X yc 0 S .focus)) o (f .kept);
       judge = λ s X. judging s X _ (λ S. corners s X (s .windows .most) (s .covered .most) S .weightedSpringy);
-      judge-weighted = λ s X h. judging s X _ (λ S. rw h (corners s X (s .windows .most) (s .covered .most) S .weighted));
+      judge-weighted = λ s X h. judging s X _ (λ S. rw (no-bridges (s .shape) h) (corners s X (s .windows .most) (s .covered .most) S .weighted));
       judge-springy = λ s X most. judging s X _ (λ S. rw most (corners s X (s .windows .most) 0 S .springy));
-      judge-focus = λ s X h most. judging s X _ (λ S. rw (h, most) (corners s X (s .windows .most) 0 S .focus));
+      judge-focus = λ s X h most. judging s X _ (λ S. rw (no-bridges (s .shape) h, most) (corners s X (s .windows .most) 0 S .focus));
       plans = judged;
       watch = counting;
     }
@@ -168,9 +176,6 @@ established =
       look-ups = agree;
       decimals = decimals;
       texts = texts;
-      verdicts = Verdict·told-apart;
-      readings = Reading·told-apart;
-      records = shown-apart;
     }
 
 contracts : Contracts
@@ -195,15 +200,18 @@ contracts =
       step-for-c = record { meets = CStep.Met.met; total = λ M 𝓤 H A mem run κs a. (tt, λ g. refl) };
       over = record { meets = Over.Met.met; total = λ M 𝓤 H A mem run κs a. (tt, λ g. refl) };
       check = record { meets = Check.Met.met; total = λ M 𝓤 H A mem run κs a. (tt, λ g. refl) };
+      check-lengths = record { meets = CheckLengths.Met.met; total = λ M 𝓤 H A mem run κs a. (tt, λ g. refl) };
+      check-settings = record { meets = CheckSettings.Met.met; total = λ M 𝓤 H A mem run κs a. (tt, λ g. refl) };
+      check-shape = record { meets = CheckShape.Met.met; total = λ M 𝓤 H A mem run κs a. (tt, λ g. refl) };
+      differ = record { meets = Differ.Met.met; total = λ M 𝓤 H A mem run κs a. (tt, λ g. refl) };
       check-request = record { meets = CheckRequest.Met.met; total = λ M 𝓤 H A mem run κs a. (tt, λ g. refl) };
       class-of = record { meets = ClassOf.Met.met; total = λ M 𝓤 H A mem run κs a. (tt, λ g. refl) };
       low = record { meets = Low.Met.met; total = λ M 𝓤 H A mem run κs a. (tt, λ g. refl) };
       rows = record { meets = Rows.Met.met; total = λ M 𝓤 H A mem run κs a. (tt, λ g. refl) };
       «open» = record { meets = Open.Met.met; total = λ M 𝓤 H A mem run κs a. (tt, λ g. refl) };
       range-at = record { meets = RangeAt.Met.met; total = λ M 𝓤 H A mem run κs a. (tt, λ g. refl) };
-      number-of-a-file = record { meets = FileNumber.Met.met; total = λ M 𝓤 H A mem run κs a. (tt, λ g. refl) };
-      number-of-settings = record { meets = SettingsNumber.Met.met; total = λ M 𝓤 H A mem run κs a. (tt, λ g. refl) };
-      number-of-a-step = record { meets = StepNumber.Met.met; total = λ M 𝓤 H A mem run κs a. (tt, λ g. refl) };
+      number = record { meets = Number.Met.met; total = λ M 𝓤 H A mem run κs a. (tt, λ g. refl) };
+      slot = record { meets = RefusedSlot.Met.met; total = λ M 𝓤 H A mem run κs a. (tt, λ g. refl) };
     }
 
 pub demands : Demands

@@ -13,6 +13,7 @@ use Rattle.judge.proofs.Allowing.{Allowed, allowing, said}
 use Rattle.rule.proofs.Ranges.{chosen-length}
 use Rattle.rule.specs.Ranges.{ChosenIn}
 use Rattle.rule.specs.Rule.{legal, windows, covered}
+use Rattle.rule.specs.declared.Shape.{Shape}
 use Rattle.settings.specs.declared.CountRange.{CountRange}
 use Rattle.settings.specs.declared.Settings.{Settings}
 use Rattle.published.proofs.Corners.{recount}
@@ -44,11 +45,11 @@ true-least {r} {D} {given = given} into back raised =
     }
 
 -- legal marks draw windows within every maximum that they are within
-pub drawn-by : {k : ℤ} {len h : ℕ} (X : List ℤ) (ms : List ℕ) (yc zc : ℕ) → legal k len h X ms ≡ true →
-    windows ms ≤ yc → covered ms ≤ zc → Obeys k len h yc zc X (runs 0 ms)
-drawn-by {k} {len} {h} X ms yc zc e few short =
-    let (o, number, summed) = theorems .draws k len h X ms e in
-    recount X _ _ _ _ _ _ o (omega (arith, number, few)) (omega (arith, summed, short))
+pub drawn-by : (k : ℤ) (shape : Shape) (X : List ℤ) (ms : List ℕ) (yc zc : ℕ) → legal k shape X ms ≡ true →
+    windows ms ≤ yc → covered ms ≤ zc → Obeys k shape yc zc X (runs 0 ms)
+drawn-by k shape X ms yc zc e few short =
+    let (o, number, summed) = theorems .draws k shape X ms e in
+    recount X _ _ _ _ _ o (omega (arith, number, few)) (omega (arith, summed, short))
 
 module _ (r : Request) (w : WellFormed r) where
   abbrev s : Settings
@@ -59,14 +60,14 @@ module _ (r : Request) (w : WellFormed r) where
 
   -- windows for loads of the request, with at most yc windows of summed length at most zc
   abbrev Rule : List ℤ → (yc zc : ℕ) → List Run → Type 0
-  Rule X yc zc S = Obeys (s .k) (s .len) (s .h) yc zc X S
+  Rule X yc zc S = Obeys (s .k) (s .shape) yc zc X S
 
   -- such windows are drawn by a plan
   plan-of : (X : List ℤ) (yc zc : ℕ) (S : List Run) →
       ChosenIn (ranges r) X → yc ≤ s .windows .most → zc ≤ s .covered .most → Rule X yc zc S →
-      (ms : List ℕ) × PlanOf r ms × (legal (s .k) (s .len) (s .h) X ms ≡ true) × (windows ms ≤ yc) × (covered ms ≤ zc)
+      (ms : List ℕ) × PlanOf r ms × (legal (s .k) (s .shape) X ms ≡ true) × (windows ms ≤ yc) × (covered ms ≤ zc)
   plan-of X yc zc S c most-w most-c o =
-      let (ms, e, into, onto, number, summed) = theorems .drawn (s .k) (s .len) (s .h) yc zc X S o in
+      let (ms, e, into, onto, number, summed) = theorems .drawn (s .k) (s .shape) yc zc X S o in
       let few : windows ms ≤ yc = omega (arith, number, o .number) in
       let short : covered ms ≤ zc = omega (arith, summed, o .summed) in
       (ms, record { in-rule = (X, c, e); windows-fit = omega arith; covered-fit = omega arith }, e, few, short)
@@ -79,7 +80,7 @@ module _ (r : Request) (w : WellFormed r) where
     satisfied : (ms : List ℕ) → PlanOf r ms → (yc : ℕ) → windows ms ≤ yc → Satisfied r D yc
     satisfied ms p yc few =
         let (X, c, e) = p .in-rule in
-        (X, c, runs 0 ms, is X (wide X c) yc _ .1 (drawn-by X ms yc _ e few (p .covered-fit)))
+        (X, c, runs 0 ms, is X (wide X c) yc _ .1 (drawn-by _ _ X ms yc _ e few (p .covered-fit)))
 
     planned : (yc : ℕ) → yc ≤ s .windows .most → Satisfied r D yc → (ms : List ℕ) × PlanOf r ms × (windows ms ≤ yc)
     planned yc most (X, c, S, d) =
@@ -95,7 +96,7 @@ module _ (r : Request) (w : WellFormed r) where
         l .occurs,
         runs 0 (l .marks),
         is (l .loads) (wide _ (l .chosen)) _ _ .1
-            (drawn-by (l .loads) (l .marks) _ _ (l .in-rule) (l .plan .windows-fit) (l .plan .covered-fit)),
+            (drawn-by _ _ (l .loads) (l .marks) _ _ (l .in-rule) (l .plan .windows-fit) (l .plan .covered-fit)),
       )),
       (λ (X, c, there, occurs, S, d).
           let (ms, p, e, few, short) = plan-of X _ _ S c (le-refl _) (le-refl _) (is X (wide X c) _ S .0 d) in
@@ -113,7 +114,7 @@ module _ (r : Request) (w : WellFormed r) where
           d .loads,
           d .chosen,
           is (d .loads) as-many _ _ .1
-              (drawn-by (d .loads) (o .marks) _ _ (allow .in-rule) (allow .windows-fit) (allow .covered-fit)),
+              (drawn-by _ _ (d .loads) (o .marks) _ _ (allow .in-rule) (allow .windows-fit) (allow .covered-fit)),
         )
 
     pub delivers : (o : Outcome) → Keeps r o → Delivers r D o
@@ -124,13 +125,13 @@ module _ (r : Request) (w : WellFormed r) where
             (λ none. says-none r o k w (λ ms p. none (satisfied ms p _ (p .windows-fit)))),
           );
           some = λ q. let (ms, p, few) = planned _ (le-refl _) q in says-planned r o k w ms p;
-          windows = λ v c e. true-least
+          windows = λ n e. true-least
               (λ ms p. (p .windows-fit, satisfied ms p _ (le-refl _))) (λ u (most, q). planned u most q)
-              (planned-so r o k v c e .windows);
-          loads = λ v c e i there x.
-              let exact = planned-so r o k v c e .narrowed i there .exact x in
+              (planned-so r o k n e .windows);
+          loads = λ n e i there x.
+              let exact = planned-so r o k n e .narrowed i there .exact x in
               ((λ held. occurs i x .0 (exact .0 held)), (λ q. exact .1 (occurs i x .1 q)));
-          plan = λ v c e. let p = planned-so r o k v c e in drawn o (p .lowest-length) (p .highest-length) (p .drawn);
+          plan = λ n e. let p = planned-so r o k n e in drawn o (p .lowest-length) (p .highest-length) (p .drawn);
         }
 
   -- D is the rule by its covered count
@@ -147,10 +148,10 @@ module _ (r : Request) (w : WellFormed r) where
     delivers-covered o k =
         record {
           some = λ q. let (ms, p, short) = planned-within _ (le-refl _) q in says-planned r o k w ms p;
-          covered = λ v c e. true-least
+          covered = λ n e. true-least
               (λ ms p.
               let (X, c, e) = p .in-rule in
-              (p .covered-fit, (X, c, runs 0 ms, is X (wide X c) _ _ .1 (drawn-by X ms _ _ e (p .windows-fit) (le-refl _)))))
+              (p .covered-fit, (X, c, runs 0 ms, is X (wide X c) _ _ .1 (drawn-by _ _ X ms _ _ e (p .windows-fit) (le-refl _)))))
               (λ u (most, q). planned-within u most q)
-              (planned-so r o k v c e .covered);
+              (planned-so r o k n e .covered);
         }

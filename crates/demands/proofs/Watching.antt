@@ -1,5 +1,5 @@
 -- The count of a watch, measured against the definition: the least over legal marks is the least over sets of sequences.
-use Prim.Native.Nat.{ℕ, _≤_}
+use Prim.Native.Nat.{_≤_}
 use native.Mathlib.Omega.{arith}
 use mathlib.Core.List.{List}
 use lib.IntN.{ℤ}
@@ -7,6 +7,7 @@ use lib.ListN.{length}
 use Rattle.rule.proofs.Onward.{as-long}
 use Rattle.rule.proofs.Tally.{covered-le}
 use Rattle.rule.specs.Rule.{carries, covered}
+use Rattle.rule.specs.declared.Shape.{Shape}
 use Rattle.published.proofs.Theorems.{theorems}
 use Rattle.published.specs.Published.{Run, SpringyFocus, runs}
 use Rattle.watch.proofs.Counting.{least}
@@ -15,17 +16,17 @@ use Rattle.watch.specs.declared.Watch.{Watch}
 use Rattle.demands.proofs.Measure.{drawn-by}
 use Rattle.demands.specs.Demands.{Least}
 
-pub counting : (k : ℤ) (len h : ℕ) (X : List ℤ) (w : Watch) → Leads k len h X w →
-    Least (λ yc. (S : List Run) × SpringyFocus X yc len h k S) (w .windows)
-counting k len h X w l =
-    let over-marks = least k len h X (l .accepted) in
+pub counting : (k : ℤ) (shape : Shape) (X : List ℤ) (w : Watch) → Leads k shape X w →
+    Least (λ yc. (S : List Run) × SpringyFocus X yc (shape .len) (shape .h) k S) (w .windows)
+counting k shape X w l =
+    let over-marks = least k shape X (l .accepted) in
     let (ms, e, same) = over-marks .met in
-    let short : covered ms ≤ length X = omega (arith, covered-le ms, as-long (carries k) len h X ms e) in
+    let short : covered ms ≤ length X = omega (arith, covered-le ms, as-long (carries k) shape X ms e) in
     rw (← l .state)
     record {
-      met = (runs 0 ms, theorems .corners X _ _ _ _ 0 _ .springy .1 (drawn-by X ms _ _ e (omega (arith, same)) short));
+      met = (runs 0 ms, theorems .corners X _ _ _ _ 0 _ .springy .1 (drawn-by _ _ X ms _ _ e (omega (arith, same)) short));
       least = λ u (S, d).
           let o = theorems .corners X _ _ _ _ 0 S .springy .0 d in
-          let (ms, e, into, onto, number, summed) = theorems .drawn k len h _ _ X S o in
+          let (ms, e, into, onto, number, summed) = theorems .drawn k shape _ _ X S o in
           omega (arith, over-marks .least ms e, number, o .number);
     }

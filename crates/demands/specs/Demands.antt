@@ -7,8 +7,8 @@
 -- back is `Chosen`, what a watch gives is `starting`, `Steps` and `Runs`, what the reader leaves is `reading`, and what a look-up gives,
 -- also through a view, is `looking`.
 use Prim.Native.Nat.{ℕ, _≤_, _<_, max}
-use mathlib.Core.Bool.{true}
-use mathlib.Core.List.{List, [], _∷_}
+use mathlib.Core.Bool.{true, false}
+use mathlib.Core.List.{List}
 use mathlib.Core.Logic.{_↔_, _⊎_}
 use mathlib.Core.Option.{none, some}
 use mathlib.Core.Path.{_≡_}
@@ -18,37 +18,39 @@ use lib.ListN.{length}
 use mir.Syntax.{w32}
 use mir.Val.{SFits}
 use Rattle.rule.specs.Ranges.{ChosenIn, Class}
-use Rattle.refusals.specs.Answer.{refuses}
+use Rattle.rule.specs.declared.Shape.{Shape}
+use Rattle.refusals.specs.Answer.{refuses, gives}
+use Rattle.refusals.specs.Numbers.{number, slot}
 use Rattle.refusals.specs.Table.{row}
+use Rattle.refusals.specs.declared.Refusal.{Refusal}
+use Rattle.refusals.specs.declared.Refusal.the-variants.{Lent, Slot, Unreached, Full}
 use Rattle.settings.specs.Refusals.{refusal}
 use Rattle.settings.specs.declared.CountRange.{CountRange}
 use Rattle.settings.specs.declared.Settings.{Settings}
-use Rattle.judge.specs.Judgment.{says, refuses as Judgment·refuses, told as Judgment·told, judgment}
-use Rattle.judge.specs.declared.Verdict.{Verdict}
+use Rattle.judge.specs.Judgment.{says, judgeRefusal, judgment}
 use Rattle.chooser.specs.Choice.{Chosen, Chooses}
 use Rattle.published.specs.Published.{Run, size, sum, _⊆_, Focus, SpringyFocus, WeightedFocus, WeightedSpringyFocus, runs, Theorems}
 use Rattle.published.specs.Examples.{Examples}
 use Rattle.requests.specs.Cases.{cases, Kept}
 use Rattle.requests.specs.Demand3.{Demand3}
-use Rattle.requests.specs.Promise.{refuses as Promise·refuses, no-plan, planned, Outcome, SaysPlanned, Held, Unaltered}
-use Rattle.requests.specs.Promise.{YesFor, Keeps, Alike}
-use Rattle.requests.specs.Request.{Request, slots, paired, ranges, at, Refused, refused, WellFormed, PlanOf}
+use Rattle.requests.specs.Promise.{Outcome, Says, SaysPlanned, SaysNoPlan, Held, Unaltered, YesFor, Keeps, Alike}
+use Rattle.requests.specs.Request.{Request, slots, paired, ranges, at, refused, WellFormed, PlanOf}
+use Rattle.requests.specs.declared.PlanCounts.{PlanCounts}
 use Rattle.requests.specs.Solution.{LeastCounts}
-use Rattle.watch.specs.Promise.{starting, refuses-with, told, Steps, Runs, RunsFrom, Least as Watch·Least, CaseL}
+use Rattle.watch.specs.Promise.{starting, told, Steps, Runs, RunsFrom, Least as Watch·Least, CaseL}
 use Rattle.watch.specs.States.{startRefusal, Leads, Reached}
 use Rattle.watch.specs.Tested.{Sound}
 use Rattle.watch.specs.declared.Watch.{Watch}
 use Rattle.watch.specs.declared.step.Stepped.{Stepped}
 use Rattle.form1.specs.Form1.{refusal as File·refusal}
 use Rattle.form1.specs.Layout.{ReadBack, DrawnOnly}
-use Rattle.card.specs.Reading.{told as Reading·told, lentTooShort, reading, noSlot, shown, looking, Agree}
-use Rattle.card.specs.declared.Found.{Found}
-use Rattle.card.specs.declared.Reading.{Reading}
+use Rattle.card.specs.Reading.{lentTooShort, reading, noSlot, looking, Agree}
 use Rattle.listing.specs.Cases.{Cases as Listing·Cases}
 use Rattle.listing.specs.Text.{Decimal}
 use Rattle.c_api.specs.Numbers.{Answered, Means, VerdictMeans}
-use Rattle.c_api.specs.WatchNumbers.{StartMeans, StepMeans}
+use Rattle.c_api.specs.WatchNumbers.{Stepping, StartMeans, StepMeans}
 use Rattle.c_api.specs.declared.AnswerNumbers.{AnswerNumbers}
+use Rattle.c_api.specs.declared.watches.StepNumbers.{StepNumbers}
 use Rattle.demands.specs.Operation.{Operation}
 use Rattle.filter.proofs.filter as Filter
 use Rattle.judge.proofs.judge as Judge
@@ -69,54 +71,57 @@ use Rattle.c_api.proofs.icecoppice_watch_start as CStart
 use Rattle.c_api.proofs.icecoppice_watch_step as CStep
 use Rattle.rule.proofs.over as Over
 use Rattle.settings.proofs.check as Check
+use Rattle.settings.proofs.check_lengths as CheckLengths
+use Rattle.settings.proofs.check_settings as CheckSettings
+use Rattle.settings.proofs.check_shape as CheckShape
+use Rattle.settings.proofs.differ as Differ
 use Rattle.checks.proofs.check_request as CheckRequest
 use Rattle.rule.proofs.class_of as ClassOf
 use Rattle.least.proofs.low as Low
 use Rattle.least.proofs.rows as Rows
 use Rattle.form1.proofs.open as Open
 use Rattle.form1.proofs.range_at as RangeAt
-use Rattle.refusals.proofs.FileRefusal.number as FileNumber
-use Rattle.refusals.proofs.SettingsRefusal.number as SettingsNumber
-use Rattle.refusals.proofs.StepRefusal.number as StepNumber
+use Rattle.refusals.proofs.Refusal.number as Number
+use Rattle.refusals.proofs.Refusal.slot as RefusedSlot
 
 -- Demand 1: every input gets a result or one numbered refusal (from the chooser, an empty part), and what is lent is unaltered after
 -- a refusal or a "no plan". That every input may be given is said by `Contracts`. The judge, the chooser, the watch, the look-up and
 -- the view take values and shared slices, and write nothing; the listing refuses nothing.
 pub record Demand1 : Type 0 where
-  -- the filter refuses with the first number that applies, and in no other situation
-  pub filter : (r : Request) (o : Outcome) → Keeps r o → (f : Refused) → (o .answer ≡ Promise·refuses f) ↔ (refused r ≡ some f)
-  -- its promise decides the answer and both load slices: nothing is left open but which plan is handed back
+  -- the filter refuses with the first refusal that applies, and in no other situation
+  pub filter : (r : Request) (o : Outcome) → Keeps r o → (f : Refusal) → (o .answer ≡ refuses f) ↔ (refused r ≡ some f)
+  -- so do the judge, a watch's start, the reader and the look-up
+  pub judge : (s : Settings) (loads : List ℤ) (marks : List ℕ) (f : Refusal) →
+      (judgment s loads marks ≡ refuses f) ↔ (judgeRefusal s loads marks ≡ some f)
+  pub start : (k : ℤ) (shape : Shape) (f : Refusal) → (starting k shape ≡ refuses f) ↔ (startRefusal shape ≡ some f)
+  pub reader : (file : List ℕ) (los his : List ℤ) (f : Refusal) →
+      (reading file los his .answer ≡ refuses f) ↔ (File·refusal (row Lent (lentTooShort los his file)) file ≡ some f)
+  pub look-up : (slot : ℕ) (file : List ℕ) (f : Refusal) →
+      (looking slot file ≡ refuses f) ↔ (File·refusal (row Slot (noSlot slot file)) file ≡ some f)
+  -- the filter's promise decides the answer and both load slices: nothing is left open but which plan is handed back
   pub decided : (r : Request) (o p : Outcome) → Keeps r o → Keeps r p → Alike o p
   pub unaltered : (r : Request) (o : Outcome) → Keeps r o →
-      (o .answer ≡ no-plan → Unaltered r o) × ((f : Refused) → o .answer ≡ Promise·refuses f → Unaltered r o)
-  -- the judge refuses with the first number that applies, and in no other situation
-  pub judge : (s : Settings) (loads : List ℤ) (marks : List ℕ) (n : ℕ) →
-      (judgment s loads marks ≡ Judgment·refuses n) ↔ (refusal (length loads) (length marks ∷ []) s ≡ some n)
+      (SaysNoPlan o → Unaltered r o) × ((f : Refusal) → o .answer ≡ refuses f → Unaltered r o)
   -- the chooser hands back one of the two plans, to which the judge says yes; or the empty part, exactly where the judge refuses one
   -- of the two or says no to both
   pub chooser : (s : Settings) (loads : List ℤ) (a b r : RefT (List ℕ)) → Chosen s loads a b r → Chooses s loads a b r
-  -- a watch's start refuses with the first number that applies, and in no other situation; a refusal of a step is 32
-  -- or 33, each exactly when `Steps` says, and keeps the state
-  pub start : (k : ℤ) (len h n : ℕ) → (starting k len h ≡ refuses n) ↔ (startRefusal len h ≡ some n)
-  pub step : (w : Watch) (load : ℤ) (r : Stepped) → Steps w load r → (n : ℕ) → told (r .answer) ≡ refuses-with n →
-      ((n ≡ 32) ⊎ (n ≡ 33)) × (r .watch ≡ w)
+  -- a refusal of a step is 32 or 33, each exactly when `Steps` says, and keeps the state
+  pub step : (w : Watch) (load : ℤ) (r : Stepped) → Steps w load r → (f : Refusal) → told (r .answer) ≡ refuses f →
+      ((f ≡ Unreached) ⊎ (f ≡ Full)) × (r .watch ≡ w)
   -- a run is refused by one of its steps; from a state that loads lead to, with 33, exactly when the limit leaves loads over
-  pub run : (w v : Watch) (loads : List ℤ) (taken n : ℕ) → Runs w loads v taken (some n) → (n ≡ 32) ⊎ (n ≡ 33)
+  pub run : (w v : Watch) (loads : List ℤ) (taken : ℕ) (f : Refusal) → Runs w loads v taken (some f) → (f ≡ Unreached) ⊎ (f ≡ Full)
   pub run-on : RunsFrom
-  -- the reader and the look-up refuse with the first number that applies, and in no other situation; the reader then
-  -- leaves both slices as they were
-  pub reader : (file : List ℕ) (los his : List ℤ) (n : ℕ) →
-      (reading file los his .answer ≡ refuses n) ↔ (File·refusal (row 17 (lentTooShort los his file)) file ≡ some n)
-  pub reader-unaltered : (file : List ℕ) (los his : List ℤ) (n : ℕ) → reading file los his .answer ≡ refuses n →
+  -- the reader that refuses leaves both slices as they were
+  pub reader-unaltered : (file : List ℕ) (los his : List ℤ) (f : Refusal) → reading file los his .answer ≡ refuses f →
       (reading file los his .lowest ≡ los) × (reading file los his .highest ≡ his)
-  pub look-up : (slot : ℕ) (file : List ℕ) (n : ℕ) →
-      (looking slot file ≡ refuses n) ↔ (File·refusal (row 19 (noSlot slot file)) file ≡ some n)
   -- for C, the numbers tell which of these it was, and the filter's lent slices are as it leaves them
   pub filter-for-c : (r : Request) (numbers : AnswerNumbers) (los his : List ℤ) (ms : List ℕ) → Answered r numbers los his ms →
       Means r numbers los his ms
   pub judge-for-c : (s : Settings) (loads : List ℤ) (marks : List ℕ) → VerdictMeans s loads marks
   pub start-for-c : StartMeans
-  pub step-for-c : StepMeans
+  pub step-for-c : (w : Watch) (load : ℤ) (numbers : StepNumbers) → Stepping w load numbers → StepMeans w load numbers
+  -- and no two refusals share number and slot
+  pub numbers : (f g : Refusal) → number f ≡ number g → slot f ≡ slot g → f ≡ g
 
 -- Demand 2, measured against the published definitions.
 
@@ -147,21 +152,21 @@ pub record TrueLeast (r : Request) (D : Definition) (given handed : CountRange) 
 -- What is handed back for r, by a definition D with its maximum of windows
 pub record Delivers (r : Request) (D : Definition) (o : Outcome) : Type 0 where
   -- "no plan" is said exactly when no choice of loads in the ranges can be covered within the maximums
-  pub none : (o .answer ≡ no-plan) ↔ (Satisfied r D (r .settings .windows .most) → ⊥)
+  pub none : SaysNoPlan o ↔ (Satisfied r D (r .settings .windows .most) → ⊥)
   -- where some choice can, the answer is "planned"
   pub some : Satisfied r D (r .settings .windows .most) → SaysPlanned o
-  pub windows : (w c : CountRange) → o .answer ≡ planned w c → TrueLeast r D (r .settings .windows) w
+  pub windows : (n : PlanCounts) → Says o n → TrueLeast r D (r .settings .windows) (n .windows)
   -- each load left in a range occurs in a plan, each load removed in none
-  pub loads : (w c : CountRange) → o .answer ≡ planned w c → (i : ℕ) → i < slots r → (x : ℤ) →
+  pub loads : (n : PlanCounts) → Says o n → (i : ℕ) → i < slots r → (x : ℤ) →
       Held o i x ↔ Occurs r D (r .settings .windows .most) i x
   -- the plan handed back is one of them, for loads that are left
-  pub plan : (w c : CountRange) → o .answer ≡ planned w c →
+  pub plan : (n : PlanCounts) → Says o n →
       (X : List ℤ) × ChosenIn (paired (o .lowest) (o .highest)) X × D X (r .settings .windows .most) (runs 0 (o .marks))
 
 -- What is handed back for r, by a definition D with its maximum of summed length
 pub record DeliversCovered (r : Request) (D : Definition) (o : Outcome) : Type 0 where
   pub some : Satisfied r D (r .settings .covered .most) → SaysPlanned o
-  pub covered : (w c : CountRange) → o .answer ≡ planned w c → TrueLeast r D (r .settings .covered) c
+  pub covered : (n : PlanCounts) → Says o n → TrueLeast r D (r .settings .covered) (n .covered)
 
 -- what `filter` hands back for a request that it does not refuse
 pub record Filtered (r : Request) (o : Outcome) : Type 0 where
@@ -171,41 +176,41 @@ pub record Filtered (r : Request) (o : Outcome) : Type 0 where
 -- The judge, by a definition D of the windows drawn
 pub record Judges (s : Settings) (X : List ℤ) (D : List Run → Type 0) : Type 0 where
   -- says yes to nothing but what it allows, with the counts of these windows,
-  pub sound : (ms : List ℕ) (w c : ℕ) → judgment s X ms ≡ says true w c →
+  pub sound : (ms : List ℕ) (w c : ℕ) → judgment s X ms ≡ gives (says true w c) →
       D (runs 0 ms) × (length (runs 0 ms) ≡ w) × (sum size (runs 0 ms) ≡ c)
   -- and to all that it allows
-  pub complete : refusal (length X) (length X ∷ []) s ≡ none → (S : List Run) → D S →
-      (ms : List ℕ) × (judgment s X ms ≡ says true (length S) (sum size S)) × (runs 0 ms ⊆ S) × (S ⊆ runs 0 ms)
+  pub complete : refusal (length X) false s ≡ none → (S : List Run) → D S →
+      (ms : List ℕ) × (judgment s X ms ≡ gives (says true (length S) (sum size S))) × (runs 0 ms ⊆ S) × (S ⊆ runs 0 ms)
 
 pub record Demand2 : Type 0 where
   pub weightedSpringy : (r : Request) (o : Outcome) → Filtered r o → let s = r .settings in
-      Delivers r (λ X yc S. WeightedSpringyFocus X yc (s .len) (s .h) (s .k) (s .covered .most) S) o
-      × DeliversCovered r (λ X zc S. WeightedSpringyFocus X (s .windows .most) (s .len) (s .h) (s .k) zc S) o
+      Delivers r (λ X yc S. WeightedSpringyFocus X yc (s .shape .len) (s .shape .h) (s .k) (s .covered .most) S) o
+      × DeliversCovered r (λ X zc S. WeightedSpringyFocus X (s .windows .most) (s .shape .len) (s .shape .h) (s .k) zc S) o
   -- with h = 0
-  pub weighted : (r : Request) (o : Outcome) → Filtered r o → r .settings .h ≡ 0 → let s = r .settings in
-      Delivers r (λ X yc S. WeightedFocus X yc (s .len) (s .k) (s .covered .most) S) o
-      × DeliversCovered r (λ X zc S. WeightedFocus X (s .windows .most) (s .len) (s .k) zc S) o
+  pub weighted : (r : Request) (o : Outcome) → Filtered r o → r .settings .shape .h ≡ 0 → let s = r .settings in
+      Delivers r (λ X yc S. WeightedFocus X yc (s .shape .len) (s .k) (s .covered .most) S) o
+      × DeliversCovered r (λ X zc S. WeightedFocus X (s .windows .most) (s .shape .len) (s .k) zc S) o
   -- with a covered maximum of n
   pub springy : (r : Request) (o : Outcome) → Filtered r o → r .settings .covered .most ≡ slots r → let s = r .settings in
-      Delivers r (λ X yc S. SpringyFocus X yc (s .len) (s .h) (s .k) S) o
+      Delivers r (λ X yc S. SpringyFocus X yc (s .shape .len) (s .shape .h) (s .k) S) o
   -- with both
-  pub focus : (r : Request) (o : Outcome) → Filtered r o → r .settings .h ≡ 0 → r .settings .covered .most ≡ slots r →
-      let s = r .settings in Delivers r (λ X yc S. Focus X yc (s .len) (s .k) S) o
+  pub focus : (r : Request) (o : Outcome) → Filtered r o → r .settings .shape .h ≡ 0 → r .settings .covered .most ≡ slots r →
+      let s = r .settings in Delivers r (λ X yc S. Focus X yc (s .shape .len) (s .k) S) o
   -- the judge of finished plans, in the same order
   pub judge : (s : Settings) (X : List ℤ) →
-      Judges s X (WeightedSpringyFocus X (s .windows .most) (s .len) (s .h) (s .k) (s .covered .most))
-  pub judge-weighted : (s : Settings) (X : List ℤ) → s .h ≡ 0 →
-      Judges s X (WeightedFocus X (s .windows .most) (s .len) (s .k) (s .covered .most))
+      Judges s X (WeightedSpringyFocus X (s .windows .most) (s .shape .len) (s .shape .h) (s .k) (s .covered .most))
+  pub judge-weighted : (s : Settings) (X : List ℤ) → s .shape .h ≡ 0 →
+      Judges s X (WeightedFocus X (s .windows .most) (s .shape .len) (s .k) (s .covered .most))
   pub judge-springy : (s : Settings) (X : List ℤ) → s .covered .most ≡ length X →
-      Judges s X (SpringyFocus X (s .windows .most) (s .len) (s .h) (s .k))
-  pub judge-focus : (s : Settings) (X : List ℤ) → s .h ≡ 0 → s .covered .most ≡ length X →
-      Judges s X (Focus X (s .windows .most) (s .len) (s .k))
+      Judges s X (SpringyFocus X (s .windows .most) (s .shape .len) (s .shape .h) (s .k))
+  pub judge-focus : (s : Settings) (X : List ℤ) → s .shape .h ≡ 0 → s .covered .most ≡ length X →
+      Judges s X (Focus X (s .windows .most) (s .shape .len) (s .k))
   -- filter and judge agree: the plans of a request are the marks to which the judge says yes with their counts, for some
   -- loads in its ranges
   pub plans : (r : Request) → WellFormed r → (ms : List ℕ) → PlanOf r ms ↔ YesFor (r .settings) (ranges r) ms
   -- the watch counts the least number of windows, without a maximum, for the loads that led to its state
-  pub watch : (k : ℤ) (len h : ℕ) (X : List ℤ) (w : Watch) → Leads k len h X w →
-      Least (λ yc. (S : List Run) × SpringyFocus X yc len h k S) (w .windows)
+  pub watch : (k : ℤ) (shape : Shape) (X : List ℤ) (w : Watch) → Leads k shape X w →
+      Least (λ yc. (S : List Run) × SpringyFocus X yc (shape .len) (shape .h) k S) (w .windows)
 
 -- What is established beside the demands. Nothing else cites most of it, so that only its place here keeps it.
 pub record Established : Type 0 where
@@ -230,10 +235,6 @@ pub record Established : Type 0 where
   -- numbers as text, and the texts that document 01 prints
   pub decimals : (n : ℕ) → Decimal n
   pub texts : Listing·Cases
-  -- no two answers of the judge, the reader or the look-up tell the same
-  pub verdicts : (v w : Verdict) → Judgment·told v ≡ Judgment·told w → v ≡ w
-  pub readings : (r q : Reading) → Reading·told r ≡ Reading·told q → r ≡ q
-  pub records : (f g : Found) → shown f ≡ shown g → f ≡ g
 
 -- Each operation meets its contract, as its source states it, and no contract has a `requires`.
 pub record Contracts : Type 2 where
@@ -261,18 +262,21 @@ pub record Contracts : Type 2 where
   pub start-for-c : Operation CStart.Statement.statement CStart.signature (λ M 𝓤. CStart.spec 𝓤)
   pub step-for-c : Operation CStep.Statement.statement CStep.signature (λ M 𝓤. CStep.spec 𝓤)
   -- what these share: the test of a load, checks, a slot's class and least counts, a file's trailer and records, and the
-  -- numbers of refusals
+  -- number and slot of a refusal
   pub over : Operation Over.Statement.statement Over.signature (λ M 𝓤. Over.spec 𝓤)
   pub check : Operation Check.Statement.statement Check.signature (λ M 𝓤. Check.spec 𝓤)
+  pub check-lengths : Operation CheckLengths.Statement.statement CheckLengths.signature (λ M 𝓤. CheckLengths.spec 𝓤)
+  pub check-settings : Operation CheckSettings.Statement.statement CheckSettings.signature (λ M 𝓤. CheckSettings.spec 𝓤)
+  pub check-shape : Operation CheckShape.Statement.statement CheckShape.signature (λ M 𝓤. CheckShape.spec 𝓤)
+  pub differ : Operation Differ.Statement.statement Differ.signature (λ M 𝓤. Differ.spec 𝓤)
   pub check-request : Operation CheckRequest.Statement.statement CheckRequest.signature (λ M 𝓤. CheckRequest.spec 𝓤)
   pub class-of : Operation ClassOf.Statement.statement ClassOf.signature (λ M 𝓤. ClassOf.spec 𝓤)
   pub low : Operation Low.Statement.statement Low.signature (λ M 𝓤. Low.spec 𝓤)
   pub rows : Operation Rows.Statement.statement Rows.signature (λ M 𝓤. Rows.spec 𝓤)
   pub «open» : Operation Open.Statement.statement Open.signature (λ M 𝓤. Open.spec 𝓤)
   pub range-at : Operation RangeAt.Statement.statement RangeAt.signature (λ M 𝓤. RangeAt.spec 𝓤)
-  pub number-of-a-file : Operation FileNumber.Statement.statement FileNumber.signature (λ M 𝓤. FileNumber.spec 𝓤)
-  pub number-of-settings : Operation SettingsNumber.Statement.statement SettingsNumber.signature (λ M 𝓤. SettingsNumber.spec 𝓤)
-  pub number-of-a-step : Operation StepNumber.Statement.statement StepNumber.signature (λ M 𝓤. StepNumber.spec 𝓤)
+  pub number : Operation Number.Statement.statement Number.signature (λ M 𝓤. Number.spec 𝓤)
+  pub slot : Operation RefusedSlot.Statement.statement RefusedSlot.signature (λ M 𝓤. RefusedSlot.spec 𝓤)
 
 -- Demand 3 stands in crates/requests/specs/Demand3.antt, of the definitions and of what the filter hands back.
 pub record Demands : Type 2 where

@@ -3,7 +3,7 @@ ghost use Prim.Native.Nat.{_≤_};
 use crate::samples::Request;
 use filter::Answer;
 use filter::filter;
-use settings::CountRange;
+use requests::PlanCounts;
 use settings::Settings;
 
 // What the marks hold before the filter is called.
@@ -63,20 +63,20 @@ fn call(settings: Settings, n: usize, lowest: [i32; 8], highest: [i32; 8]) -> Gi
 
 pub fn outcome_of(settings: Settings, answer: Answer) -> Outcome {
     match answer {
-        Answer::Planned { windows, covered } => planned(settings, windows, covered),
+        Answer::Planned(counts) => planned(settings, counts),
         Answer::NoPlan => without(NO_PLAN, 0),
-        Answer::Crossed(slot) => without(31, slot),
-        Answer::Refused(refusal) => without(refusal.number(), 0),
+        Answer::Refused(refusal) => without(refusal.number(), refusal.slot()),
     }
 }
 
-fn planned(settings: Settings, windows: CountRange, covered: CountRange) -> Outcome {
-    let moved = (windows.most != settings.windows.most) | (covered.most != settings.covered.most);
+fn planned(settings: Settings, counts: PlanCounts) -> Outcome {
+    let moved = (counts.windows.most != settings.windows.most)
+        | (counts.covered.most != settings.covered.most);
     Outcome {
         code: if moved { MOVED } else { PLANNED },
         slot: 0,
-        windows: windows.least,
-        covered: covered.least,
+        windows: counts.windows.least,
+        covered: counts.covered.least,
     }
 }
 

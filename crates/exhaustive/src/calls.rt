@@ -4,6 +4,7 @@
 // the starts of a watch; the judge has no highest loads and no crossed slots.
 ghost use Prim.Native.Nat.{_≤_, _<_};
 use crate::numbers::less;
+use rule::Shape;
 use settings::CountRange;
 use settings::Settings;
 
@@ -50,16 +51,23 @@ fn other_length(n: u16, digit: u32) -> u16
     }
 }
 
-// len is around n, h around len - 2, and each count around n.
+// Each count is around n.
 pub fn settings(call: u32) -> Settings {
     let n = slots(call);
-    let len = around(n, call % 6);
     Settings {
         k: 0,
-        len,
-        h: around(less(len, 2), call / 6 % 5),
+        shape: shape(call),
         windows: counts(n, call / 540 % 16),
         covered: counts(n, call / 8640 % 16),
+    }
+}
+
+// len is around n, h around len - 2.
+pub fn shape(call: u32) -> Shape {
+    let len = around(slots(call), call % 6);
+    Shape {
+        len,
+        h: around(less(len, 2), call / 6 % 5),
     }
 }
 

@@ -13,6 +13,7 @@ use crate::numbers::next;
 use crate::numbers::pick;
 use crate::samples::Request;
 use crate::samples::numbered;
+use rule::Shape;
 use settings::CountRange;
 use settings::Settings;
 
@@ -84,16 +85,22 @@ fn moved_to(load: i32, other: i32, up: bool) -> i32 {
     if (other > load) == up { other } else { load }
 }
 
-// The h drawn is accepted with the len drawn, so that the larger h is accepted with the larger len.
 fn loosened_settings(settings: Settings, n: u16, seed: usize) -> Settings {
-    let len = pick(seed, n);
-    let h = pick(next(seed), less(len, 2));
     Settings {
         k: settings.k,
-        len: larger(settings.len, len),
-        h: larger(settings.h, h),
+        shape: loosened_shape(settings.shape, n, seed),
         windows: loosened_counts(settings.windows, n, next(seed / 5)),
         covered: loosened_counts(settings.covered, n, next(seed / 7)),
+    }
+}
+
+// The h drawn is accepted with the len drawn, so that the larger h is accepted with the larger len.
+fn loosened_shape(shape: Shape, n: u16, seed: usize) -> Shape {
+    let len = pick(seed, n);
+    let h = pick(next(seed), less(len, 2));
+    Shape {
+        len: larger(shape.len, len),
+        h: larger(shape.h, h),
     }
 }
 

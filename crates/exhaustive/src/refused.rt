@@ -7,6 +7,7 @@ use crate::calls::highest_length;
 use crate::calls::lowest;
 use crate::calls::marks_length;
 use crate::calls::settings;
+use crate::calls::shape;
 use crate::calls::slots;
 use crate::counts::add;
 use crate::counts::end_line;
@@ -120,8 +121,7 @@ fn judged(call: u32) -> u16 {
 }
 
 fn started(call: u32) -> u16 {
-    let settings = settings(call);
-    let started = Watch::start(settings.k, settings.len, settings.h);
+    let started = Watch::start(0, shape(call));
     match started {
         Started::Refused(refusal) => refusal.number(),
         Started::Watching(_) => 0,

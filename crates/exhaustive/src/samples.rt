@@ -8,6 +8,7 @@ use crate::numbers::digit;
 use crate::numbers::next;
 use crate::numbers::others;
 use crate::numbers::pick;
+use rule::Shape;
 use settings::CountRange;
 use settings::Settings;
 
@@ -31,8 +32,7 @@ pub fn numbered(n: u16, most: u16, number: usize) -> Request {
     Request {
         settings: Settings {
             k: load(threshold, AT),
-            len: digit(number, n),
-            h: digit(others(number, n), n),
+            shape: shape(n, number),
             windows: up_to(digit(counts, n), next(seed / 2)),
             covered: up_to(digit(others(counts, n), n), next(seed / 3)),
         },
@@ -42,13 +42,22 @@ pub fn numbered(n: u16, most: u16, number: usize) -> Request {
     }
 }
 
+// The two lowest digits of a number.
+fn shape(n: u16, number: usize) -> Shape
+    ensures { λ r. ⌜ r .h ≤ n ⌝ }
+{
+    Shape {
+        len: digit(number, n),
+        h: digit(others(number, n), n),
+    }
+}
+
 // Whether the request of n slots with this number has an accepted len and h.
 pub fn is_accepted(n: u16, number: usize) -> bool
     requires { ⌜ n ≤ 8 ⌝ }
 {
-    let len = digit(number, n);
-    let h = digit(others(number, n), n);
-    (len > 0) & ((h == 0) | (h + 1 < len))
+    let shape = shape(n, number);
+    (shape.len > 0) & ((shape.h == 0) | (shape.h + 1 < shape.len))
 }
 
 // Half of the minimums are 0.

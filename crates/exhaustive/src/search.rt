@@ -2,6 +2,7 @@
 // used here.
 ghost use Prim.Native.Nat.{_+_, _≤_, _<_};
 use crate::numbers::smaller;
+use rule::Shape;
 use settings::Settings;
 
 // What the plans found so far have: the least counts, each by itself, which are 8 before the first; and a bit for each
@@ -114,7 +115,7 @@ fn is_legal(
         if !has_load(settings.k, lowest[i], highest[i], marks[i]) {
             return false;
         }
-        if !is_placed(settings, n, marks, i) {
+        if !is_placed(settings.shape, n, marks, i) {
             return false;
         }
         i += 1;
@@ -134,12 +135,12 @@ fn has_load(k: i32, lowest: i32, highest: i32, mark: u8) -> bool {
 }
 
 // A first slot must begin a window that keeps the rule; a later one and a bridge must follow a covered slot.
-fn is_placed(settings: Settings, n: usize, marks: [u8; 8], i: usize) -> bool
+fn is_placed(shape: Shape, n: usize, marks: [u8; 8], i: usize) -> bool
     requires { ⌜ (i < n) × (n ≤ 8) ⌝ }
 {
     let mark = marks[i];
     if mark == 1 {
-        return is_window(settings, marks, i, end_of(n, marks, i));
+        return is_window(shape, marks, i, end_of(n, marks, i));
     }
     if i == 0 {
         return mark == 0;
@@ -164,12 +165,12 @@ fn end_of(n: usize, marks: [u8; 8], first: usize) -> usize
 
 // Whether the window from first to below end keeps the rule: its last slot is no bridge, and it has at most len slots
 // and h bridges.
-fn is_window(settings: Settings, marks: [u8; 8], first: usize, end: usize) -> bool
+fn is_window(shape: Shape, marks: [u8; 8], first: usize, end: usize) -> bool
     requires { ⌜ (first < end) × (end ≤ 8) ⌝ }
 {
     (marks[end - 1] != 3)
-        & (end - first <= settings.len as usize)
-        & (count(marks, first, end, 3) <= settings.h)
+        & (end - first <= shape.len as usize)
+        & (count(marks, first, end, 3) <= shape.h)
 }
 
 pub fn windows(n: usize, marks: [u8; 8]) -> u16

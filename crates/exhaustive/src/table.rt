@@ -33,10 +33,10 @@ pub fn refusal(call: u32) -> u16
 fn wrong_settings(settings: Settings, n: u16) -> u16
     ensures { λ r. ⌜ r ≤ 26 ⌝ }
 {
-    if (settings.len == 0) | (settings.len > n) {
+    if (settings.shape.len == 0) | (settings.shape.len > n) {
         return 23;
     }
-    if (settings.h > 0) & (settings.h as u32 + 1 >= settings.len as u32) {
+    if (settings.shape.h > 0) & (settings.shape.h as u32 + 1 >= settings.shape.len as u32) {
         return 24;
     }
     if is_wrong(settings.windows, n) {

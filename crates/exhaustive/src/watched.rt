@@ -6,8 +6,8 @@ use crate::counts::Tally;
 use crate::filtered::agrees;
 use crate::samples::numbered;
 use crate::search::search;
+use refusals::Checked;
 use settings::Settings;
-use watch::Ended;
 use watch::Started;
 use watch::Watch;
 
@@ -40,13 +40,13 @@ pub fn compare(tally: Tally, n: u16, number: usize) -> Tally
 fn watched(settings: Settings, n: usize, loads: [i32; 8]) -> u32
     requires { ⌜ n ≤ 8 ⌝ }
 {
-    let started = Watch::start(settings.k, settings.len, settings.h);
+    let started = Watch::start(settings.k, settings.shape);
     let Started::Watching(watch) = started else {
         return REFUSED;
     };
     let ran = watch.run(&loads[..n]);
     let ended = ran.ended;
-    let Ended::All = ended else {
+    let Checked::Passed = ended else {
         return REFUSED;
     };
     ran.watch.windows

@@ -1,5 +1,5 @@
 -- The filter's answers keep its promise: what the functions called on the way gave, taken together.
-use Prim.Native.Nat.{ℕ, suc, _-_, _≤_, _<_}
+use Prim.Native.Nat.{ℕ, _≤_, _<_}
 use native.Mathlib.Omega.{arith}
 use mathlib.Core.Bool.{true, false, true≢false}
 use mathlib.Core.List.{List, []}
@@ -8,6 +8,8 @@ use borrow.Author.Tests.{le-leb, lt-leb}
 use lib.IntN.{ℤ}
 use lib.ListN.{length, take}
 use lib.Seq.{length-take-le}
+use Rattle.refusals.specs.Answer.{gives}
+use Rattle.rule.proofs.Plan.{nonzero-same}
 use Rattle.rule.specs.Ranges.{Class, allows}
 use Rattle.settings.specs.Refusals.{limit}
 use Rattle.rule.specs.Rule.{legalBy, windows, covered}
@@ -24,37 +26,19 @@ module _ (r : Request) (well : WellFormed r) where
   abbrev s : Settings
   s = r .settings
 
-  -- what the functions called ask of lengths and settings
-  pub record Sizes : Type 0 where
-    pub short : slots r ≤ limit
-    pub highest : length (r .highest) ≡ slots r
-    pub marks : length (r .marks) ≡ slots r
-    pub len : 1 ≤ s .len
-    pub windows : s .windows .most ≤ limit
-    pub covered : s .covered .most ≤ limit
-
-  pub sizes : Sizes
-  sizes =
-      let p = formed .0 well .pass in
-      record {
-        short = p .slots .1;
-        highest = p .same .0;
-        marks = p .same .1 .0;
-        len = p .length .0;
-        windows = omega (arith, p .windows .1, p .slots .1);
-        covered = omega (arith, p .covered .1, p .slots .1);
-      }
+  short : slots r ≤ limit
+  short = formed .0 well .pass .slots .1
 
   module _ (codes : List ℕ) (wide : length codes ≡ limit) where
     pub whole : length (take (slots r) codes) ≡ slots r
-    whole = length-take-le (slots r) codes (omega (arith, sizes .short))
+    whole = length-take-le (slots r) codes (omega (arith, short))
 
     pub whole-short : length (take (slots r) codes) ≤ limit
-    whole-short = omega (arith, whole, sizes .short)
+    whole-short = omega (arith, whole, short)
 
   module _ (cs : List Class) (by : cs ≡ classes r) (least : Least) (few : least .windows ≡ sparsest s cs)
       (short : least .covered ≡ cheapest s cs) where
-    pub no-plan-kept : s .covered .most < least .covered → Keeps r (unaltered r no-plan)
+    pub no-plan-kept : s .covered .most < least .covered → Keeps r (unaltered r (gives no-plan))
     unfolding outcome possible
     no-plan-kept e =
         let none : possible s (classes r) ≡ false = rw (← by, ← short) (lt-leb _ _ e) in
@@ -66,14 +50,14 @@ module _ (r : Request) (well : WellFormed r) where
       some-plan = rw (← short) (le-leb _ _ e)
 
       pub plan-kept : (ms : List ℕ) {w c : CountRange} {los his : List ℤ} →
-          (legalBy allows (s .len) (s .h) cs ms ≡ true) × (windows ms ≤ s .windows .most) × (covered ms ≤ s .covered .most) →
+          (legalBy allows (s .shape) cs ms ≡ true) × (windows ms ≤ s .windows .most) × (covered ms ≤ s .covered .most) →
           w ≡ raised (s .windows) (least .windows) → c ≡ raised (s .covered) (least .covered) →
           (los ≡ lowestLeft s cs (r .lowest)) × (his ≡ highestLeft s cs (r .highest)) →
-          Keeps r (record { answer = planned w c; lowest = los; highest = his; marks = ms })
+          Keeps r (record { answer = gives (planned (record { windows = w; covered = c })); lowest = los; highest = his; marks = ms })
       unfolding outcome
       plan-kept ms (in-rule, fits-w, fits-c) w c (low, high) =
           let good = formed .0 well in
-          let len : suc (s .len - 1) ≡ s .len = omega (arith, good .pass .length .0) in
-          let plan = fits→plan r good (record { in-rule = rw (← by, len) in-rule; few = fits-w; short = fits-c }) in
+          let same = nonzero-same (s .shape) (good .pass .length .0) in
+          let plan = fits→plan r good (record { in-rule = rw (← by, same) in-rule; few = fits-w; short = fits-c }) in
           let kept : Keeps r (found r ms) = rw (well, rw by at some-plan) at (keeps r ms (λ _ _. plan)) in
           rw (w, c, low, high, few, short, by) kept

@@ -2,7 +2,7 @@
 use Prim.Native.Nat.{ℕ, _+_, _≤_, _<_}
 use native.Mathlib.Nat.{eq-or-lt-of-le}
 use native.Mathlib.Omega.{arith}
-use mathlib.Core.List.{List, map}
+use mathlib.Core.List.{List}
 use mathlib.Core.Logic.{⊎-elim}
 use mathlib.Core.Path.{_≡_, sym, ap, _∙_, subst}
 use lib.IntN.{ℤ}
@@ -15,6 +15,7 @@ use Rattle.rule.proofs.Coding.{code-back, code-at}
 use Rattle.requests.proofs.Narrowing.{class-at}
 use Rattle.rule.specs.Codes.{code, coded, decoded}
 use Rattle.requests.specs.Request.{at, paired}
+use Rattle.requests.specs.Solution.{classesOf}
 
 -- what holds of the places before i, and of the value written to place i, holds of the places before i + 1
 pub written : {A : Type 0} (P : ℕ → A → Type 0) (l : List A) (i : ℕ) (v d : A) → i < length l →
@@ -33,8 +34,8 @@ pub record Classed (k : ℤ) (los his : List ℤ) (codes : List ℕ) (i : ℕ) :
   pub classes : (j : ℕ) → j < i → coded (getD codes j 0) ≡ classOf k (range (at los j) (at his j))
 
 module _ {k : ℤ} {los his : List ℤ} where
-  pub none-classed : Classed k los his (replicate 64 0) 0
-  none-classed = record { inside = omega arith; wide = length-replicate {A = ℕ} 64 0; classes = λ j l. absurd (omega arith) }
+  pub none-classed : Classed k los his (replicate limit 0) 0
+  none-classed = record { inside = omega arith; wide = length-replicate {A = ℕ} limit 0; classes = λ j l. absurd (omega arith) }
 
   module _ (short : length los ≤ limit) (codes : List ℕ) (i : ℕ) (f : Classed k los his codes i) where
     pub one-classed : (v : ℕ) → i < length los → v ≡ code (classOf k (range (at los i) (at his i))) →
@@ -50,17 +51,17 @@ module _ {k : ℤ} {los his : List ℤ} where
         Right j m = coded m ≡ classOf k (range (at los j) (at his j))
 
     pub all-classed : length his ≡ length los → length los ≤ i →
-        (length codes ≡ limit) × (decoded (take (length los) codes) ≡ map (classOf k) (paired los his))
+        (length codes ≡ limit) × (decoded (take (length los) codes) ≡ classesOf k los his)
     all-classed same e = (f .wide, ext-getD under-only _ _ (coded-length ∙ sym ranges-length) alike)
       where
         coded-length : length (decoded (take (length los) codes)) ≡ length los
         coded-length = length-map (take (length los) codes) coded ∙ length-take-le (length los) codes (omega (arith, f .wide))
 
-        ranges-length : length (map (classOf k) (paired los his)) ≡ length los
+        ranges-length : length (classesOf k los his) ≡ length los
         ranges-length = length-map (paired los his) (classOf k) ∙ paired-length los his (sym same)
 
         alike : (j : ℕ) → j < length (decoded (take (length los) codes)) →
-            getD (decoded (take (length los) codes)) j under-only ≡ getD (map (classOf k) (paired los his)) j under-only
+            getD (decoded (take (length los) codes)) j under-only ≡ getD (classesOf k los his) j under-only
         alike j l =
             let there : j < length los = omega (arith, l, coded-length) in
             code-at codes (length los) j there ∙ f .classes j (omega arith) ∙ sym (class-at k los his j there (omega arith))

@@ -2,7 +2,7 @@
 use Prim.Native.Nat.{ℕ, zero, suc, _+_, _≤_, _<_}
 use native.Mathlib.Omega.{arith}
 use mathlib.Core.Bool.{Bool, true, false, cond, not}
-use mathlib.Core.List.{List, map}
+use mathlib.Core.List.{List}
 use mathlib.Core.Logic.{_⊎_, inl, inr}
 use mathlib.Core.Path.{_≡_, refl, sym, ap, _∙_, subst}
 use borrow.Author.Tests.{eqb-false, not-true, not-false}
@@ -15,7 +15,8 @@ use mir.Syntax.{w32}
 use mir.Val.{SFits}
 use Rattle.facts.proofs.Integers.{le→lt-suc}
 use Rattle.facts.proofs.Rules.{holds, map-set}
-use Rattle.rule.specs.Ranges.{Range, range, Class, under-only, over-only, either, classOf}
+use Rattle.rule.specs.Ranges.{range, Class, under-only, over-only, either, classOf}
+use Rattle.rule.specs.declared.Range.{Range}
 use Rattle.settings.specs.declared.Settings.{Settings}
 use Rattle.filter.proofs.Classing.{written}
 use Rattle.rule.proofs.Coding.{codes-under, codes-over, codes-either, code-at}
@@ -23,8 +24,8 @@ use Rattle.requests.proofs.Narrowing.{along-length, along-at, class-at, Ends, e
 use Rattle.rule.specs.Codes.{coded, decoded}
 use Rattle.filter.specs.Parts.{losing, Loses}
 use Rattle.requests.specs.Promise.{Loss, nothing, under-part, over-part, lowestAfter, highestAfter}
-use Rattle.requests.specs.Request.{at, paired}
-use Rattle.requests.specs.Solution.{possible, lossOf, loss, along}
+use Rattle.requests.specs.Request.{at}
+use Rattle.requests.specs.Solution.{classesOf, possible, lossOf, loss, along}
 use Rattle.filter.specs.declared.narrow.Part.{Part}
 use Rattle.filter.specs.declared.narrow.Part.the-variants.{Nothing, Under, Over}
 
@@ -91,7 +92,7 @@ Lost nothing = ⊥
 Lost under-part = Unit
 Lost over-part = Unit
 
-module _ (s : Settings) (los his : List ℤ) {cs : List Class} (is : cs ≡ map (classOf (s .k)) (paired los his)) (i : ℕ) where
+module _ (s : Settings) (los his : List ℤ) {cs : List Class} (is : cs ≡ classesOf (s .k) los his) (i : ℕ) where
   abbrev slot : Range
   slot = range (at los i) (at his i)
 

@@ -11,17 +11,17 @@ use lib.Dec.{eqb, ltb}
 use lib.ListN.{length, drop, take, getD, set, length-set, length-map, drop-of-length-le}
 use lib.Seq.{take-all, take-suc-set, append-snoc}
 use Rattle.rule.proofs.Classes.{must-be-over, must-be-under}
-use Rattle.rule.proofs.Plan.{State, out, on, PlanBy, done, skip, opens, close, more, bridges, plan→legal}
+use Rattle.rule.proofs.Plan.{State, out, on, PlanBy, done, skip, opens, close, more, bridges, plan→legal, nonzero-same}
 use Rattle.facts.proofs.Rules.{at-most}
 use Rattle.rule.specs.Ranges.{Class, allows}
-use Rattle.settings.specs.Refusals.{limit}
+use Rattle.settings.specs.Refusals.{limit, places}
 use Rattle.rule.specs.Rule.{count, legalBy, windows, covered}
+use Rattle.rule.specs.declared.Shape.{Shape}
 use Rattle.settings.specs.declared.Settings.{Settings}
 use Rattle.rule.proofs.Coding.{cannot-be-uncovered}
 use Rattle.requests.proofs.Exact.{least}
-use Rattle.least.proofs.Filling.{at-slot}
 use Rattle.least.proofs.Scanning.{from-slot}
-use Rattle.requests.specs.Best.{Fits, spend, dearer, best, onward, after}
+use Rattle.requests.specs.Best.{Fits, spend, dearer, best, onward, beyond, after}
 use Rattle.rule.specs.Codes.{coded, decoded}
 use Rattle.filter.specs.Drawing.{Able, closedBy, outsideBy, insideBy, nextBy}
 use Rattle.least.specs.Rows.{Behind}
@@ -59,14 +59,14 @@ used f (suc n) c e l = (omega arith, subst (λ n. f n ≤ c) (omega arith) e)
 covers-one : (x c : ℕ) → dearer sentinel x ≤ c → c < sentinel → (1 ≤ c) × (x ≤ c - 1)
 covers-one x c e l = omega arith
 
-module _ (room h : ℕ) where
+module _ (shape : Shape) where
   -- the least that a plan covers which does not close a window before the next slot
   abbrev reach : State → List Class → (w : ℕ) → ℕ
-  reach (out q) cs w = best sentinel room h cs w
-  reach (on closes r b) cs w = onward sentinel room h cs r b w
+  reach (out q) cs w = best sentinel shape cs w
+  reach (on closes r b) cs w = onward sentinel shape cs r b w
 
   -- at the end a window may close, unless it is behind a bridge
-  ended : (st : State) (w c : ℕ) → least sentinel room h st [] w ≤ c → c < sentinel → PlanBy allows room h st [] []
+  ended : (st : State) (w c : ℕ) → least sentinel shape st [] w ≤ c → c < sentinel → PlanBy allows shape st [] []
   unfolding onward
   ended (out q) w c e l = done
   ended (on true r b) w c e l = close done
@@ -77,7 +77,7 @@ module _ (room h : ℕ) where
     pub windows-same : q .windows ≡ p .windows
     pub covered-same : q .covered ≡ p .covered
     pub enough : reach (state q r b) cs (p .windows) ≤ p .covered
-    pub carry : (rest : List ℕ) → PlanBy allows room h (state q r b) cs rest → PlanBy allows room h (state p r b) cs rest
+    pub carry : (rest : List ℕ) → PlanBy allows shape (state q r b) cs rest → PlanBy allows shape (state p r b) cs rest
     pub inside : (q .mark ≡ 0 → ⊥) → q .mark ≡ p .mark
 
   module _ (cs : List Class) (r b : ℕ) (p : Pen) where
@@ -87,16 +87,16 @@ module _ (room h : ℕ) where
     stays : reach (state p r b) cs (p .windows) ≤ p .covered → Closed cs r b p p
     stays e = record { windows-same = refl; covered-same = refl; enough = e; carry = λ rest m. m; inside = λ _. refl }
 
-    shuts : best sentinel room h cs (p .windows) ≤ p .covered →
-        ((rest : List ℕ) → PlanBy allows room h (out 0) cs rest → PlanBy allows room h (state p r b) cs rest) → Closed cs r b p shut
+    shuts : beyond sentinel shape cs (p .windows) ≤ p .covered →
+        ((rest : List ℕ) → PlanBy allows shape (out 0) cs rest → PlanBy allows shape (state p r b) cs rest) → Closed cs r b p shut
     shuts e f = record { windows-same = refl; covered-same = refl; enough = e; carry = f; inside = λ n. absurd (n refl) }
 
-    pub closing : (rest : ℕ) → ((p .mark ≡ 0 → ⊥) → rest ≡ best sentinel room h cs (p .windows)) →
-        least sentinel room h (state p r b) cs (p .windows) ≤ p .covered → Closed cs r b p (closedBy p rest)
+    pub closing : (rest : ℕ) → ((p .mark ≡ 0 → ⊥) → rest ≡ beyond sentinel shape cs (p .windows)) →
+        least sentinel shape (state p r b) cs (p .windows) ≤ p .covered → Closed cs r b p (closedBy p rest)
     closing rest is e = by (eqb (p .mark) 0) (eqb (p .mark) 3) (ltb (p .covered) rest) refl refl refl e
       where
         by : (outside bridge dear : Bool) → eqb (p .mark) 0 ≡ outside → eqb (p .mark) 3 ≡ bridge → ltb (p .covered) rest ≡ dear →
-            least sentinel room h (stateBy outside bridge r b) cs (p .windows) ≤ p .covered →
+            least sentinel shape (stateBy outside bridge r b) cs (p .windows) ≤ p .covered →
             Closed cs r b p (cond (bridge || dear) p shut)
         by true true dear i j k e = stays (rw i e)
         by true false true i j k e = stays (rw i e)
@@ -114,25 +114,25 @@ module _ (room h : ℕ) where
     pub able : Able q c
     pub slots : ℕ
     pub bridges : ℕ
-    pub enough : least sentinel room h (state n slots bridges) cs (n .windows) ≤ n .covered
+    pub enough : least sentinel shape (state n slots bridges) cs (n .windows) ≤ n .covered
     pub windows-left : n .windows ≤ q .windows
     pub covered-left : n .covered ≤ q .covered
-    pub carry : (rest : List ℕ) → PlanBy allows room h (state n slots bridges) cs rest → windows rest ≤ n .windows →
+    pub carry : (rest : List ℕ) → PlanBy allows shape (state n slots bridges) cs rest → windows rest ≤ n .windows →
         covered rest ≤ n .covered →
-        PlanBy allows room h (state q r b) (c ∷ cs) (n .mark ∷ rest)
+        PlanBy allows shape (state q r b) (c ∷ cs) (n .mark ∷ rest)
         × (windows (n .mark ∷ rest) ≤ q .windows)
         × (covered (n .mark ∷ rest) ≤ q .covered)
     -- the window goes on, where none is opened
     pub goes-on : (n .mark ≡ 1 → ⊥) → (n .mark ≡ 0 → ⊥) → (q .mark ≡ 0 → ⊥) × (n .windows ≡ q .windows)
 
   module _ (c : Class) (cs : List Class) (q : Pen) (small : q .covered < sentinel) where
-    outside : (r b : ℕ) → q .mark ≡ 0 → best sentinel room h (c ∷ cs) (q .windows) ≤ q .covered → Stepped c cs r b q (outsideBy q c)
+    outside : (r b : ℕ) → q .mark ≡ 0 → best sentinel shape (c ∷ cs) (q .windows) ≤ q .covered → Stepped c cs r b q (outsideBy q c)
     unfolding best windows covered count
     outside r b o e = by (allows c 0) refl e
       where
         by : (free : Bool) → allows c 0 ≡ free →
-            cond free (best sentinel room h cs (q .windows))
-            (dearer sentinel (spend sentinel (q .windows) λ w. after sentinel room h cs room h w)) ≤ q .covered →
+            cond free (best sentinel shape cs (q .windows))
+            (dearer sentinel (spend sentinel (q .windows) λ w. after sentinel shape cs (shape .len - 1) (shape .h) w)) ≤ q .covered →
             Stepped c cs r b q (cond free q (record { mark = 1; windows = q .windows - 1; covered = q .covered - 1 }))
         by true i e =
             record {
@@ -147,11 +147,11 @@ module _ (room h : ℕ) where
             }
         by false i e =
             let (some, e) = covers-one _ _ e small in
-            let (one, e) = used (after sentinel room h cs room h) (q .windows) _ e (omega arith) in
+            let (one, e) = used (after sentinel shape cs (shape .len - 1) (shape .h)) (q .windows) _ e (omega arith) in
             record {
               able = record { outside = λ _ _. (one, some); inside = λ n. absurd (n o) };
-              slots = room;
-              bridges = h;
+              slots = shape .len - 1;
+              bridges = shape .h;
               enough = e;
               windows-left = omega arith;
               covered-left = omega arith;
@@ -164,9 +164,9 @@ module _ (room h : ℕ) where
     drawn m = record { mark = m; windows = q .windows; covered = q .covered - 1 }
 
     goes : (r b m r′ b′ : ℕ) → (q .mark ≡ 0 → ⊥) → eqb m 1 ≡ false → 1 ≤ q .covered →
-        least sentinel room h (state (drawn m) r′ b′) cs (q .windows) ≤ q .covered - 1 →
-        ((rest : List ℕ) → PlanBy allows room h (state (drawn m) r′ b′) cs rest →
-        PlanBy allows room h (on (not (eqb (q .mark) 3)) r b) (c ∷ cs) (m ∷ rest)) →
+        least sentinel shape (state (drawn m) r′ b′) cs (q .windows) ≤ q .covered - 1 →
+        ((rest : List ℕ) → PlanBy allows shape (state (drawn m) r′ b′) cs rest →
+        PlanBy allows shape (on (not (eqb (q .mark) 3)) r b) (c ∷ cs) (m ∷ rest)) →
         Stepped c cs r b q (drawn m)
     unfolding windows covered count
     goes r b m r′ b′ o later some e f =
@@ -185,14 +185,14 @@ module _ (room h : ℕ) where
           goes-on = λ _ _. (o, refl);
         }
 
-    inside : (r b : ℕ) → (q .mark ≡ 0 → ⊥) → onward sentinel room h (c ∷ cs) r b (q .windows) ≤ q .covered →
+    inside : (r b : ℕ) → (q .mark ≡ 0 → ⊥) → onward sentinel shape (c ∷ cs) r b (q .windows) ≤ q .covered →
         Stepped c cs r b q (insideBy q c)
     unfolding onward
     inside zero b o e = absurd (omega arith)
     inside (suc r) b o e = let (some, e) = covers-one _ _ e small in by (allows c 2) b refl some e
       where
         by : (over : Bool) (b : ℕ) → allows c 2 ≡ over → 1 ≤ q .covered →
-            cond over (after sentinel room h cs r b (q .windows)) (spend sentinel b λ b. onward sentinel room h cs r b (q .windows))
+            cond over (after sentinel shape cs r b (q .windows)) (spend sentinel b λ b. onward sentinel shape cs r b (q .windows))
             ≤ q .covered - 1 →
             Stepped c cs (suc r) b q (cond over (drawn 2) (drawn 3))
         by true b i some e = goes (suc r) b 2 r b o refl some e (λ rest m. more i m)
@@ -209,27 +209,24 @@ module _ (room h : ℕ) where
 
 -- The plan drawn up to slot i: with any plan of the rest that uses what is left, it is a plan of the whole; and there is one.
 module _ (s : Settings) (classes : List ℕ) where
-  abbrev len-room : ℕ
-  len-room = s .len - 1
-
   abbrev cs : List Class
   cs = decoded classes
 
   pub record Drawn (marks : List ℕ) (p : Pen) (row : List ℕ) (i : ℕ) : Type 0 where
     pub there : i ≤ length classes
     pub as-long : length marks ≡ length classes
-    pub wide : length row ≡ 65
+    pub wide : length row ≡ places
     pub few : p .windows ≤ limit
     pub small : p .covered < sentinel
     pub by-row : (p .mark ≡ 0 → ⊥) → Behind s cs (p .windows + 1) row
     pub slots : ℕ
     pub bridges : ℕ
-    pub enough : least sentinel len-room (s .h) (state p slots bridges) (drop i cs) (p .windows) ≤ p .covered
-    pub ahead : (rest : List ℕ) → PlanBy allows len-room (s .h) (state p slots bridges) (drop i cs) rest →
+    pub enough : least sentinel (s .shape) (state p slots bridges) (drop i cs) (p .windows) ≤ p .covered
+    pub ahead : (rest : List ℕ) → PlanBy allows (s .shape) (state p slots bridges) (drop i cs) rest →
         windows rest ≤ p .windows → covered rest ≤ p .covered →
-        Fits len-room (s .h) cs (s .windows .most) (s .covered .most) (take i marks ++ rest)
+        Fits (s .shape) cs (s .windows .most) (s .covered .most) (take i marks ++ rest)
 
-  pub begins : (marks row : List ℕ) → length marks ≡ length classes → length row ≡ 65 → s .windows .most ≤ limit →
+  pub begins : (marks row : List ℕ) → length marks ≡ length classes → length row ≡ places → s .windows .most ≤ limit →
       s .covered .most ≤ limit → possible s cs ≡ true →
       Drawn marks (record { mark = 0; windows = s .windows .most; covered = s .covered .most }) row 0
   unfolding possible
@@ -244,29 +241,29 @@ module _ (s : Settings) (classes : List ℕ) where
         slots = 0;
         bridges = 0;
         enough = leb-true _ _ e;
-        ahead = λ rest m w c. record { in-rule = plan→legal allows len-room (s .h) cs rest m; few = w; short = c };
+        ahead = λ rest m w c. record { in-rule = plan→legal allows (s .shape) cs rest m; few = w; short = c };
       }
 
   module _ (marks : List ℕ) (p : Pen) (row : List ℕ) (i : ℕ) (d : Drawn marks p row i) where
     pub closes : {q : Pen} → i ≤ limit → q ≡ closedBy p (getD row i 0) →
-        Closed len-room (s .h) (drop i cs) (d .slots) (d .bridges) p q
+        Closed (s .shape) (drop i cs) (d .slots) (d .bridges) p q
     closes short is =
         rw is
-        (closing len-room (s .h) (drop i cs) (d .slots) (d .bridges) p (getD row i 0)
-        (λ n. at-slot s classes (p .windows) i (d .by-row n) short) (d .enough))
+        (closing (s .shape) (drop i cs) (d .slots) (d .bridges) p (getD row i 0)
+        (λ n. (rw add-one at (d .by-row n)) .counts i short) (d .enough))
 
     abbrev class : Class
     class = coded (getD classes i 0)
 
-    module _ (there : i < length classes) (q : Pen) (shut : Closed len-room (s .h) (drop i cs) (d .slots) (d .bridges) p q) where
-      pub steps : {n : Pen} → n ≡ nextBy q class → Stepped len-room (s .h) class (drop (i + 1) cs) (d .slots) (d .bridges) q n
+    module _ (there : i < length classes) (q : Pen) (shut : Closed (s .shape) (drop i cs) (d .slots) (d .bridges) p q) where
+      pub steps : {n : Pen} → n ≡ nextBy q class → Stepped (s .shape) class (drop (i + 1) cs) (d .slots) (d .bridges) q n
       steps is =
           rw is
-          (stepping len-room (s .h) class (drop (i + 1) cs) q (rw (shut .covered-same) (d .small)) (d .slots) (d .bridges)
+          (stepping (s .shape) class (drop (i + 1) cs) q (rw (shut .covered-same) (d .small)) (d .slots) (d .bridges)
           (rw (shut .windows-same, shut .covered-same, ← from-slot classes i there) (shut .enough)))
 
-      pub drawn-on : {n : Pen} {row′ : List ℕ} → Stepped len-room (s .h) class (drop (i + 1) cs) (d .slots) (d .bridges) q n →
-          length row′ ≡ 65 → (n .mark ≡ 1 → Behind s cs (n .windows + 1) row′) → ((n .mark ≡ 1 → ⊥) → row′ ≡ row) →
+      pub drawn-on : {n : Pen} {row′ : List ℕ} → Stepped (s .shape) class (drop (i + 1) cs) (d .slots) (d .bridges) q n →
+          length row′ ≡ places → (n .mark ≡ 1 → Behind s cs (n .windows + 1) row′) → ((n .mark ≡ 1 → ⊥) → row′ ≡ row) →
           Drawn (set marks i (n .mark)) n row′ (i + 1)
       drawn-on {n} {row′} step wide opened same =
           record {
@@ -297,13 +294,12 @@ module _ (s : Settings) (classes : List ℕ) where
               let one-more = take-suc-set marks i (n .mark) (omega (arith, there, d .as-long)) in
               rw (add-one, one-more) (append-snoc (take i marks) (n .mark) rest)
 
-    pub all-drawn : length classes ≤ i → 1 ≤ s .len →
-        (legalBy allows (s .len) (s .h) cs marks ≡ true) × (windows marks ≤ s .windows .most) × (covered marks ≤ s .covered .most)
+    pub all-drawn : length classes ≤ i → 1 ≤ s .shape .len →
+        (legalBy allows (s .shape) cs marks ≡ true) × (windows marks ≤ s .windows .most) × (covered marks ≤ s .covered .most)
     unfolding windows covered count
     all-drawn e l =
         let none : drop i cs ≡ [] = drop-of-length-le cs {i = i} (omega (arith, e, length-map classes coded)) in
-        let last = ended len-room (s .h) (state p (d .slots) (d .bridges)) (p .windows) _ (rw none at (d .enough)) (d .small) in
+        let last = ended (s .shape) (state p (d .slots) (d .bridges)) (p .windows) _ (rw none at (d .enough)) (d .small) in
         let whole : take i marks ++ [] ≡ marks = append-nil (take i marks) ∙ take-all i marks (omega (arith, e, d .as-long)) in
         let f = rw whole at (d .ahead [] (rw none last) (omega arith) (omega arith)) in
-        let len : suc len-room ≡ s .len = omega arith in
-        (rw len at (f .in-rule), f .few, f .short)
+        (rw (nonzero-same (s .shape) l) at (f .in-rule), f .few, f .short)

@@ -1,19 +1,16 @@
--- The filter's answers in document 01's words and numbers, for its contract.
+-- The filter's answers in document 01's words, for its contract.
 use Prim.Native.Nat.{ℕ}
 use mathlib.Core.List.{List}
 use lib.IntN.{ℤ}
-use Rattle.refusals.specs.Numbers.{settingsNumber}
-use Rattle.requests.specs.Promise.{Answer as Promised, refuses, no-plan, planned, Outcome}
-use Rattle.requests.specs.Request.{numbered, at-slot}
+use Rattle.refusals.specs.Answer.{Answer as Refusals·Answer, refuses, gives}
+use Rattle.requests.specs.Promise.{Result, no-plan, planned, Outcome}
 use Rattle.filter.specs.declared.Answer.{Answer}
-use Rattle.filter.specs.declared.Answer.the-variants.{Refused, Crossed, NoPlan, Planned}
+use Rattle.filter.specs.declared.Answer.the-variants.{Refused, NoPlan, Planned}
 
--- 31 has its slot
-abbrev pub told : Answer → Promised
-told (Refused r) = refuses (numbered (settingsNumber r))
-told (Crossed slot) = refuses (at-slot 31 slot)
-told NoPlan = no-plan
-told (Planned w c) = planned w c
+abbrev pub told : Answer → Refusals·Answer Result
+told (Refused r) = refuses r
+told NoPlan = gives no-plan
+told (Planned n) = gives (planned n)
 
 -- all that comes back
 abbrev pub handed : Answer → (lowest highest : List ℤ) (marks : List ℕ) → Outcome

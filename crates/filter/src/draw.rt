@@ -4,7 +4,7 @@ ghost use mathlib.Core.Path.{_≡_};
 ghost use Prim.Native.Nat.{_-_, _+_, _≤_, _<_};
 ghost use lib.ListN.{length};
 ghost use Rattle.rule.specs.Ranges.{allows};
-ghost use Rattle.settings.specs.Refusals.{limit};
+ghost use Rattle.settings.specs.Refusals.{limit, places};
 ghost use Rattle.rule.specs.Rule.{legalBy, windows, covered};
 ghost use Rattle.rule.specs.Codes.{coded, decoded};
 ghost use Rattle.filter.specs.Drawing.{Able, closedBy, nextBy};
@@ -13,6 +13,7 @@ ghost use Rattle.requests.specs.Solution.{possible};
 use least::rows;
 use rule::OVER;
 use rule::UNDER;
+use settings::PLACES;
 use settings::Settings;
 
 // Where the drawing stands: the mark before, 0 at the start, and the windows and covered slots that are left to the plan. What
@@ -68,9 +69,9 @@ fn next(pen: Pen, class: u8) -> Pen
 }
 
 // The row to draw by: a new one where a window has been opened.
-fn row_for(settings: Settings, classes: &[u8], pen: Pen, row: [u16; 65]) -> [u16; 65]
-    requires { ⌜ (length (now classes) ≤ limit) × (1 ≤ settings .len) × (pen .windows ≤ limit) × (length row ≡ 65) ⌝ }
-    ensures { λ r. ⌜ (length r ≡ 65)
+fn row_for(settings: Settings, classes: &[u8], pen: Pen, row: [u16; PLACES]) -> [u16; PLACES]
+    requires { ⌜ (length (now classes) ≤ limit) × (1 ≤ settings .shape .len) × (pen .windows ≤ limit) × (length row ≡ places) ⌝ }
+    ensures { λ r. ⌜ (length r ≡ places)
         × (pen .mark ≡ 1 → Behind settings (decoded (now (classes .entry))) (pen .windows + 1) r)
         × ((pen .mark ≡ 1 → ⊥) → r ≡ row) ⌝ }
 {
@@ -83,10 +84,10 @@ fn row_for(settings: Settings, classes: &[u8], pen: Pen, row: [u16; 65]) -> [u16
 
 // Draws a plan within both maximums, where there is one.
 pub(crate) fn draw(settings: Settings, classes: &[u8], marks: &mut [u8])
-    requires { ⌜ (length (now classes) ≤ limit) × (length (now marks) ≡ length (now classes)) × (1 ≤ settings .len)
+    requires { ⌜ (length (now classes) ≤ limit) × (length (now marks) ≡ length (now classes)) × (1 ≤ settings .shape .len)
         × (settings .windows .most ≤ limit) × (settings .covered .most ≤ limit)
         × (possible settings (decoded (now classes)) ≡ true) ⌝ }
-    ensures { λ _. ⌜ (legalBy allows (settings .len) (settings .h) (decoded (now (classes .entry))) (now (marks .exit)) ≡ true)
+    ensures { λ _. ⌜ (legalBy allows (settings .shape) (decoded (now (classes .entry))) (now (marks .exit)) ≡ true)
         × (windows (now (marks .exit)) ≤ settings .windows .most)
         × (covered (now (marks .exit)) ≤ settings .covered .most) ⌝ }
 {
@@ -95,7 +96,7 @@ pub(crate) fn draw(settings: Settings, classes: &[u8], marks: &mut [u8])
         windows: settings.windows.most,
         covered: settings.covered.most,
     };
-    let mut row = [0; 65];
+    let mut row = [0; PLACES];
     let mut i = 0;
     while i < marks.len() {
         let closed = close(pen, row[i]);

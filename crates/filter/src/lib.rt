@@ -8,26 +8,24 @@ ghost use Rattle.requests.specs.Solution.{raised};
 use crate::classes::classify;
 use crate::draw::draw;
 use crate::narrow::narrow;
-use checks::Formed;
 use checks::check_request;
 use least::low;
-use refusals::SettingsRefusal;
+use refusals::Checked;
+use refusals::Refusal;
+use requests::PlanCounts;
 use settings::CountRange;
 use settings::Settings;
+use settings::differ;
 
 mod classes;
 mod draw;
 mod narrow;
 
-// What the filter answers. Crossed is refusal 31, with the first slot whose lowest load is above its highest.
+// What the filter answers.
 pub enum Answer {
-    Refused(SettingsRefusal),
-    Crossed(usize),
+    Refused(Refusal),
     NoPlan,
-    Planned {
-        windows: CountRange,
-        covered: CountRange,
-    },
+    Planned(PlanCounts),
 }
 
 // Gives the first refusal that applies, or "no plan", or both count ranges with their minimums raised. Only in the last case it
@@ -42,11 +40,11 @@ pub fn filter(
         (asked settings (now (lowest .entry)) (now (highest .entry)) (now (marks .entry)))
         (handed r (now (lowest .exit)) (now (highest .exit)) (now (marks .exit))) ⌝ }
 {
-    let formed = check_request(settings, lowest, highest, marks);
-    match formed {
-        Formed::Well => plan(settings, lowest, highest, marks),
-        Formed::Refused(refusal) => Answer::Refused(refusal),
-        Formed::Crossed(slot) => Answer::Crossed(slot),
+    let different = differ(lowest.len(), marks.len());
+    let checked = check_request(settings, lowest, highest, different);
+    match checked {
+        Checked::Passed => plan(settings, lowest, highest, marks),
+        Checked::Refused(refusal) => Answer::Refused(refusal),
     }
 }
 
@@ -65,10 +63,10 @@ fn plan(settings: Settings, lowest: &mut [i32], highest: &mut [i32], marks: &mut
     }
     draw(settings, &codes[..n], marks);
     narrow(settings, codes, lowest, highest);
-    Answer::Planned {
+    Answer::Planned(PlanCounts {
         windows: raise(settings.windows, least.windows),
         covered: raise(settings.covered, least.covered),
-    }
+    })
 }
 
 // The minimum becomes the least count where that is larger; the maximum does not move.

@@ -1,18 +1,17 @@
 // What each slot loses: the part of its range that occurs in no plan.
-ghost use mathlib.Core.List.{map};
 ghost use mathlib.Core.Path.{_≡_};
 ghost use Prim.Native.Nat.{_≤_, _<_};
 ghost use lib.ListN.{length, take, set};
 ghost use Rattle.settings.specs.Refusals.{limit};
-ghost use Rattle.rule.specs.Ranges.{classOf};
 ghost use Rattle.filter.specs.Parts.{losing, Loses};
 ghost use Rattle.rule.specs.Codes.{coded, decoded};
 ghost use Rattle.requests.specs.Promise.{lowestAfter, highestAfter};
-ghost use Rattle.requests.specs.Request.{paired};
-ghost use Rattle.requests.specs.Solution.{possible, loss, lowestLeft, highestLeft};
+ghost use Rattle.requests.specs.Solution.{classesOf, possible, loss, lowestLeft, highestLeft};
 use least::low;
 use rule::OVER;
+use rule::Range;
 use rule::UNDER;
+use settings::LIMIT;
 use settings::Settings;
 
 // What a slot loses.
@@ -22,15 +21,9 @@ pub enum Part {
     Over,
 }
 
-// A slot's load range.
-pub struct Bounds {
-    pub lowest: i32,
-    pub highest: i32,
-}
-
 // Whether a plan is left with slot i settled to one class.
-fn left(settings: Settings, codes: [u8; 64], n: usize, i: usize, class: u8) -> bool
-    requires { ⌜ (length codes ≡ limit) × (n ≤ limit) × (i < n) × (1 ≤ settings .len) ⌝ }
+fn left(settings: Settings, codes: [u8; LIMIT], n: usize, i: usize, class: u8) -> bool
+    requires { ⌜ (length codes ≡ limit) × (n ≤ limit) × (i < n) × (1 ≤ settings .shape .len) ⌝ }
     ensures { λ r. ⌜ r ≡ possible settings (set (decoded (take n codes)) i (coded class)) ⌝ }
 {
     let mut settled = codes;
@@ -40,8 +33,8 @@ fn left(settings: Settings, codes: [u8; 64], n: usize, i: usize, class: u8) -> b
 }
 
 // The part of slot i's range that occurs in no plan.
-fn lost(settings: Settings, codes: [u8; 64], n: usize, i: usize) -> Part
-    requires { ⌜ (length codes ≡ limit) × (n ≤ limit) × (i < n) × (1 ≤ settings .len) ⌝ }
+fn lost(settings: Settings, codes: [u8; LIMIT], n: usize, i: usize) -> Part
+    requires { ⌜ (length codes ≡ limit) × (n ≤ limit) × (i < n) × (1 ≤ settings .shape .len) ⌝ }
     ensures { λ r. ⌜ losing r ≡ loss settings (decoded (take n codes)) i ⌝ }
 {
     if codes[i] == UNDER || codes[i] == OVER {
@@ -57,18 +50,18 @@ fn lost(settings: Settings, codes: [u8; 64], n: usize, i: usize) -> Part
 }
 
 // The range without what it loses. Only an open slot loses a part, so that k + 1 is at most a load.
-fn cut(k: i32, part: Part, range: Bounds) -> Bounds
+fn cut(k: i32, part: Part, range: Range) -> Range
     requires { ⌜ Loses k part (range .lowest) (range .highest) ⌝ }
     ensures { λ r. ⌜ (r .lowest ≡ lowestAfter k (losing part) (range .lowest))
         × (r .highest ≡ highestAfter k (losing part) (range .highest)) ⌝ }
 {
     match part {
         Part::Nothing => range,
-        Part::Under => Bounds {
+        Part::Under => Range {
             lowest: k + 1,
             highest: range.highest,
         },
-        Part::Over => Bounds {
+        Part::Over => Range {
             lowest: range.lowest,
             highest: k,
         },
@@ -76,10 +69,15 @@ fn cut(k: i32, part: Part, range: Bounds) -> Bounds
 }
 
 // Cuts every slot's range. The classes are those of the ranges as they are lent.
-pub(crate) fn narrow(settings: Settings, codes: [u8; 64], lowest: &mut [i32], highest: &mut [i32])
+pub(crate) fn narrow(
+    settings: Settings,
+    codes: [u8; LIMIT],
+    lowest: &mut [i32],
+    highest: &mut [i32],
+)
     requires { ⌜ (length codes ≡ limit) × (length (now lowest) ≤ limit) × (length (now highest) ≡ length (now lowest))
-        × (1 ≤ settings .len)
-        × (decoded (take (length (now lowest)) codes) ≡ map (classOf (settings .k)) (paired (now lowest) (now highest))) ⌝ }
+        × (1 ≤ settings .shape .len)
+        × (decoded (take (length (now lowest)) codes) ≡ classesOf (settings .k) (now lowest) (now highest)) ⌝ }
     ensures { λ _. ⌜ (now (lowest .exit)
         ≡ lowestLeft settings (decoded (take (length (now (lowest .entry))) codes)) (now (lowest .entry)))
         × (now (highest .exit)
@@ -91,7 +89,7 @@ pub(crate) fn narrow(settings: Settings, codes: [u8; 64], lowest: &mut [i32], hi
         let part = lost(settings, codes, n, i);
         let lo = lowest[i];
         let hi = highest[i];
-        let given = Bounds {
+        let given = Range {
             lowest: lo,
             highest: hi,
         };

@@ -10,10 +10,10 @@ use lib.ListN.{length, take, drop, getD, length-append}
 use lib.Seq.{drop-append-add, drop-drop}
 use mir.Syntax.{w32}
 use mir.Val.{SFits}
-use Rattle.rule.specs.Ranges.{Range}
-use Rattle.refusals.specs.Table.{first}
+use Rattle.rule.specs.declared.Range.{Range}
+use Rattle.refusals.specs.Table.{row, first}
 use Rattle.settings.specs.declared.Settings.{Settings}
-use Rattle.form1.specs.Form1.{little, signed, numberAt, signedAt, trailer, distance, slots, settings, form, rangeOf, wrongSize, wrongEnd, wrongForm, wrongSlots, wrongDistance, recordsMissing, fileRows}
+use Rattle.form1.specs.Form1.{little, signed, numberAt, signedAt, trailer, distance, slots, settings, form, rangeOf, wrongSize, wrongEnd, wrongForm, wrongSlots, wrongDistance, recordsMissing, fileRefusal}
 use Rattle.form1.specs.Layout.{bytes, bits, records, trailing, drawn, Loads, ReadBack}
 
 -- numbers there and back
@@ -104,8 +104,8 @@ module _ (note : List ℕ) (rs : List Range) (s : Settings) where
         rw (
           in-trailer 4 9 (trailer file + 9) (rw file-length (omega arith)),
           signed-back (s .k) f,
-          field 3 (s .len) (omega arith),
-          field 4 (s .h) (omega arith),
+          field 3 (s .shape .len) (omega arith),
+          field 4 (s .shape .h) (omega arith),
           field 5 (s .windows .least) (omega arith),
           field 6 (s .windows .most) (omega arith),
           field 7 (s .covered .least) (omega arith),
@@ -142,8 +142,8 @@ module _ (note : List ℕ) (rs : List Range) (s : Settings) where
         )
         refl
 
-    passes : 1 ≤ length rs → length file ≤ 4096 → first (fileRows file) ≡ none
-    unfolding fileRows first wrongSize wrongEnd wrongForm form wrongSlots wrongDistance recordsMissing trailing bytes little
+    passes : 1 ≤ length rs → length file ≤ 4096 → fileRefusal file ≡ none
+    unfolding fileRefusal first row wrongSize wrongEnd wrongForm form wrongSlots wrongDistance recordsMissing trailing bytes little
     passes some small =
         rw (
           le-ltb (length file) 16 (rw file-length (omega arith)),

@@ -6,26 +6,24 @@ use mathlib.Core.Path.{_≡_, refl, sym, ap, _∙_}
 use borrow.Author.Tests.{le-leb}
 use lib.ListN.{length}
 use Rattle.refusals.proofs.Answer.{refused-by, given-by}
-use Rattle.refusals.specs.Numbers.{fileNumber}
-use Rattle.refusals.specs.Table.{first}
-use Rattle.refusals.specs.declared.FileRefusal.{FileRefusal}
-use Rattle.form1.specs.Form1.{trailer, distance, rangeOf, fileRows}
-use Rattle.form1.specs.Opening.{said, contents, opening, boundsAt}
+use Rattle.refusals.specs.declared.Refusal.{Refusal}
+use Rattle.form1.specs.Form1.{trailer, distance, rangeOf, fileRefusal}
+use Rattle.form1.specs.Opening.{said, contents, opening, rangeAt}
 use Rattle.form1.specs.declared.Contents.{Contents}
 use Rattle.form1.specs.declared.Opened.{Opened}
 use Rattle.form1.specs.declared.Opened.the-variants.{Refused, Whole}
 
 module _ (file : List ℕ) {r : Opened} (is : said r ≡ opening file) where
-  pub rows-refuse : {f : FileRefusal} → r ≡ Refused f → first (fileRows file) ≡ some (fileNumber f)
+  pub rows-refuse : {f : Refusal} → r ≡ Refused f → fileRefusal file ≡ some f
   unfolding opening
-  rows-refuse e = refused-by (first (fileRows file)) (contents file) _ .0 (sym is ∙ ap said e)
+  rows-refuse e = refused-by (fileRefusal file) (contents file) _ .0 (sym is ∙ ap said e)
 
-  pub rows-pass : {c : Contents} → r ≡ Whole c → (first (fileRows file) ≡ none) × (c ≡ contents file)
+  pub rows-pass : {c : Contents} → r ≡ Whole c → (fileRefusal file ≡ none) × (c ≡ contents file)
   unfolding opening
-  rows-pass e = given-by (first (fileRows file)) (contents file) (sym is ∙ ap said e)
+  rows-pass e = given-by (fileRefusal file) (contents file) (sym is ∙ ap said e)
 
 -- the record of a slot stands behind those of the slots before it
 pub slot-at : (file : List ℕ) (slot place : ℕ) → place ≡ trailer file - distance file + 8 * slot → place + 8 ≤ length file →
-    (boundsAt place file .lowest ≡ rangeOf slot file .lowest) × (boundsAt place file .highest ≡ rangeOf slot file .highest)
-unfolding boundsAt rangeOf
-slot-at file slot place e h = rw (le-leb (place + 8) (length file) h, e) (refl, refl)
+    rangeAt place file ≡ rangeOf slot file
+unfolding rangeAt rangeOf
+slot-at file slot place e h = rw (le-leb (place + 8) (length file) h, e) refl

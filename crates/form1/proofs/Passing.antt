@@ -8,8 +8,7 @@ use borrow.Author.Tests.{ltb-false, eqb-true, not-false}
 use lib.ListN.{length}
 use Rattle.facts.proofs.Rules.{neither, sized}
 use Rattle.refusals.proofs.Table.{clear}
-use Rattle.refusals.specs.Table.{first}
-use Rattle.form1.specs.Form1.{wrongSize, wrongEnd, wrongForm, wrongSlots, wrongDistance, recordsMissing, numberAt, trailer, form, slots, distance, fileRows}
+use Rattle.form1.specs.Form1.{wrongSize, wrongEnd, wrongForm, wrongSlots, wrongDistance, recordsMissing, numberAt, trailer, form, slots, distance, fileRefusal}
 
 pub record Whole (file : List ℕ) : Type 0 where
   pub long : 16 ≤ length file
@@ -24,15 +23,15 @@ pub long-enough : (file : List ℕ) (b : Bool) → b ≡ wrongSize file → b �
 unfolding wrongSize
 long-enough file b is e = ltb-false _ _ (neither _ _ (sym is ∙ e) .0)
 
-pub whole : (file : List ℕ) → first (fileRows file) ≡ none → Whole file
-unfolding fileRows wrongEnd wrongForm wrongSlots wrongDistance recordsMissing
+pub whole : (file : List ℕ) → fileRefusal file ≡ none → Whole file
+unfolding fileRefusal wrongEnd wrongForm wrongSlots wrongDistance recordsMissing
 whole file e =
-    let (size, e) = clear 11 _ _ e in
-    let (end, e) = clear 12 _ _ e in
-    let (form, e) = clear 13 _ _ e in
-    let (n, e) = clear 14 _ _ e in
-    let (back, e) = clear 15 _ _ e in
-    let (records, e) = clear 16 _ _ e in
+    let (size, e) = clear _ _ _ e in
+    let (end, e) = clear _ _ _ e in
+    let (form, e) = clear _ _ _ e in
+    let (n, e) = clear _ _ _ e in
+    let (back, e) = clear _ _ _ e in
+    let (records, e) = clear _ _ _ e in
     record {
       long = long-enough file _ refl size;
       ends = let (one, other) = neither _ _ end in (eqb-true _ _ (not-false _ one), eqb-true _ _ (not-false _ other));

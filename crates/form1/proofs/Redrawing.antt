@@ -10,12 +10,11 @@ use lib.Dec.{ltb}
 use lib.ListN.{length, take, drop, length-drop, take-append-drop, drop-of-length-le}
 use lib.Seq.{drop-drop, take-add}
 use Rattle.facts.proofs.Rules.{uncons}
-use Rattle.rule.specs.Ranges.{Range}
-use Rattle.refusals.specs.Table.{first}
+use Rattle.rule.specs.declared.Range.{Range}
 use Rattle.form1.proofs.Each.{length-each}
 use Rattle.form1.proofs.Numbers.{one}
 use Rattle.form1.proofs.Passing.{Whole, whole}
-use Rattle.form1.specs.Form1.{little, signed, numberAt, signedAt, trailer, distance, slots, settings, form, rangeOf, each, fileRows}
+use Rattle.form1.specs.Form1.{little, signed, numberAt, signedAt, trailer, distance, slots, settings, form, rangeOf, each, fileRefusal}
 use Rattle.form1.specs.Layout.{bytes, bits, records, trailing, drawn, Bytes, DrawnOnly}
 
 bytes-drop : (i : ℕ) (l : List ℕ) → Bytes l → Bytes (drop i l)
@@ -101,13 +100,14 @@ module _ (file : List ℕ) (fits : Bytes file) where
       let next : trailer file + (j + 1) ≡ trailer file + j + 1 = omega arith in
       rw (next, ← one file (trailer file + j) h) (uncons file (trailer file + j) 0 h)
 
-  module _ (pass : first (fileRows file) ≡ none) where
+  module _ (pass : fileRefusal file ≡ none) where
     abbrev file-is : Whole file
     file-is = whole file pass
 
     -- the single bytes of the trailer
     counts-redrawn : drop (trailer file + 2) file
-        ≡ slots file ∷ settings file .len ∷ settings file .h ∷ settings file .windows .least ∷ settings file .windows .most
+        ≡ slots file ∷ settings file .shape .len ∷ settings file .shape .h
+        ∷ settings file .windows .least ∷ settings file .windows .most
         ∷ settings file .covered .least ∷ settings file .covered .most ∷ drop (trailer file + 9) file
     unfolding slots settings
     counts-redrawn =

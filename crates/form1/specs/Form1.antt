@@ -6,8 +6,10 @@ use mathlib.Core.Option.{Option}
 use lib.Dec.{eqb, ltb}
 use lib.IntN.{ℤ, pos, _-ℤ_}
 use lib.ListN.{length, take, drop}
-use Rattle.rule.specs.Ranges.{Range}
-use Rattle.refusals.specs.Table.{Row, row, first}
+use Rattle.rule.specs.declared.Range.{Range}
+use Rattle.refusals.specs.Table.{row, first}
+use Rattle.refusals.specs.declared.Refusal.{Refusal}
+use Rattle.refusals.specs.declared.Refusal.the-variants.{Size, End, Form, Slots, Distance, Records}
 use Rattle.settings.specs.declared.Settings.{Settings}
 
 -- numbers are little-endian ..
@@ -41,8 +43,7 @@ unfoldable pub settings : List ℕ → Settings
 settings file =
     record {
       k = signedAt (trailer file + 9) file;
-      len = numberAt 1 (trailer file + 3) file;
-      h = numberAt 1 (trailer file + 4) file;
+      shape = record { len = numberAt 1 (trailer file + 3) file; h = numberAt 1 (trailer file + 4) file };
       windows = record { least = numberAt 1 (trailer file + 5) file; most = numberAt 1 (trailer file + 6) file };
       covered = record { least = numberAt 1 (trailer file + 7) file; most = numberAt 1 (trailer file + 8) file };
     }
@@ -88,17 +89,18 @@ wrongDistance file = not (eqb (distance file) (8 * slots file))
 unfoldable pub recordsMissing : List ℕ → Bool
 recordsMissing file = ltb (length file) (16 + 8 * slots file)
 
--- the file place ("Where each refusal is checked"), as far as the reader and the look-up share it
-unfoldable pub fileRows : List ℕ → List Row
-fileRows file =
-    row 11 (wrongSize file)
-    ∷ row 12 (wrongEnd file)
-    ∷ row 13 (wrongForm file)
-    ∷ row 14 (wrongSlots file)
-    ∷ row 15 (wrongDistance file)
-    ∷ row 16 (recordsMissing file)
-    ∷ []
+-- the file place ("Where each refusal is checked"), as far as the reader and the look-up share it: 11 to 16
+unfoldable pub fileRefusal : List ℕ → Option Refusal
+fileRefusal file =
+    first
+    (row Size (wrongSize file)
+    ∷ row End (wrongEnd file)
+    ∷ row Form (wrongForm file)
+    ∷ row Slots (wrongSlots file)
+    ∷ row Distance (wrongDistance file)
+    ∷ row Records (recordsMissing file)
+    ∷ [])
 
 -- one row more: 17 for the reader, 19 for the look-up
-unfoldable pub refusal : (last : Row) → List ℕ → Option ℕ
-refusal last file = first (fileRows file ++ (last ∷ []))
+abbrev pub refusal : (last : Option Refusal) → List ℕ → Option Refusal
+refusal last file = first (fileRefusal file ∷ last ∷ [])

@@ -8,10 +8,9 @@ use lib.IntN.{ℤ, pos, negsuc}
 use lib.ListN.{length, take, getD}
 use mir.Syntax.{w32}
 use mir.Val.{SFits}
-use Rattle.rule.specs.Ranges.{Range}
-use Rattle.refusals.specs.Table.{first}
+use Rattle.rule.specs.declared.Range.{Range}
 use Rattle.settings.specs.declared.Settings.{Settings}
-use Rattle.form1.specs.Form1.{trailer, distance, settings, slots, rangeOf, each, fileRows}
+use Rattle.form1.specs.Form1.{trailer, distance, settings, slots, rangeOf, each, fileRefusal}
 
 -- a number in so many bytes, the least first
 unfoldable pub bytes : (size n : ℕ) → List ℕ
@@ -30,7 +29,7 @@ records (r ∷ rs) = bytes 4 (bits (r .lowest)) ++ (bytes 4 (bits (r .highest)) 
 unfoldable pub trailing : Settings → (n : ℕ) → List ℕ
 trailing s n =
     bytes 2 (8 * n)
-    ++ (n ∷ s .len ∷ s .h ∷ s .windows .least ∷ s .windows .most ∷ s .covered .least ∷ s .covered .most ∷ [])
+    ++ (n ∷ s .shape .len ∷ s .shape .h ∷ s .windows .least ∷ s .windows .most ∷ s .covered .least ∷ s .covered .most ∷ [])
     ++ bytes 4 (bits (s .k))
     ++ (1 ∷ 84 ∷ 67 ∷ [])
 
@@ -48,7 +47,7 @@ Bytes (b ∷ bs) = (b < 256) × Bytes bs
 
 -- A file drawn with 1 to 64 records, and of at most 4,096 bytes, passes 11 to 16, and is read as what it was drawn with.
 pub record ReadAs (file : List ℕ) (rs : List Range) (s : Settings) : Type 0 where
-  pub passes : first (fileRows file) ≡ none
+  pub passes : fileRefusal file ≡ none
   pub all-slots : slots file ≡ length rs
   pub same-settings : settings file ≡ s
   pub same-ranges : (i : ℕ) (d : Range) → i < length rs → rangeOf i file ≡ getD rs i d
@@ -62,5 +61,5 @@ ReadBack =
 -- Every file that passes is such a drawing of what is read, behind some note.
 abbrev pub DrawnOnly : Type 0
 DrawnOnly =
-    (file : List ℕ) → Bytes file → first (fileRows file) ≡ none →
+    (file : List ℕ) → Bytes file → fileRefusal file ≡ none →
     file ≡ drawn (take (trailer file - distance file) file) (each (slots file) (λ i. rangeOf i file)) (settings file)

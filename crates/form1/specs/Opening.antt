@@ -3,27 +3,19 @@
 use Prim.Native.Nat.{ℕ, _+_, _-_}
 use mathlib.Core.Bool.{cond}
 use mathlib.Core.List.{List}
-use mathlib.Core.Option.{Option, none, some}
 use lib.Dec.{leb}
 use lib.IntN.{pos}
 use lib.ListN.{length}
 use Rattle.refusals.specs.Answer.{Answer, refuses, gives, answer}
-use Rattle.refusals.specs.Numbers.{fileNumber}
-use Rattle.refusals.specs.Table.{first}
-use Rattle.form1.specs.Form1.{signedAt, trailer, distance, slots, settings, fileRows}
-use Rattle.form1.specs.declared.Bounds.{Bounds}
+use Rattle.rule.specs.Ranges.{range}
+use Rattle.rule.specs.declared.Range.{Range}
+use Rattle.form1.specs.Form1.{signedAt, trailer, distance, slots, settings, fileRefusal}
 use Rattle.form1.specs.declared.Contents.{Contents}
 use Rattle.form1.specs.declared.Opened.{Opened}
-use Rattle.form1.specs.declared.Opened.the-variants.{Refused as Opened·Refused, Whole}
-use Rattle.form1.specs.declared.check.Checked.{Checked}
-use Rattle.form1.specs.declared.check.Checked.the-variants.{Passed, Refused as Checked·Refused}
-
-abbrev pub checked : Checked → Option ℕ
-checked Passed = none
-checked (Checked·Refused r) = some (fileNumber r)
+use Rattle.form1.specs.declared.Opened.the-variants.{Refused, Whole}
 
 abbrev pub said : Opened → Answer Contents
-said (Opened·Refused r) = refuses (fileNumber r)
+said (Refused r) = refuses r
 said (Whole contents) = gives contents
 
 -- what the trailer says; the distance goes back from its start to the first record
@@ -32,12 +24,9 @@ contents file = record { settings = settings file; n = slots file; start = trail
 
 -- the first of 11 to 16 that applies, or that; the settings are not judged
 unfoldable pub opening : List ℕ → Answer Contents
-opening file = answer (first (fileRows file)) (contents file)
+opening file = answer (fileRefusal file) (contents file)
 
 -- the record at a place, lowest and highest; 0 and 0 where the file does not have its 8 bytes, which document 01 leaves open
-unfoldable pub boundsAt : (place : ℕ) → List ℕ → Bounds
-boundsAt place file =
-    cond
-    (leb (place + 8) (length file))
-    (record { lowest = signedAt place file; highest = signedAt (place + 4) file })
-    (record { lowest = pos 0; highest = pos 0 })
+unfoldable pub rangeAt : (place : ℕ) → List ℕ → Range
+rangeAt place file =
+    cond (leb (place + 8) (length file)) (range (signedAt place file) (signedAt (place + 4) file)) (range (pos 0) (pos 0))

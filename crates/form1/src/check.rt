@@ -2,16 +2,16 @@
 ghost use mathlib.Core.Path.{_≡_};
 ghost use Prim.Native.Nat.{_≤_};
 ghost use lib.ListN.{length};
-ghost use Rattle.refusals.specs.Table.{first};
-ghost use Rattle.form1.specs.Form1.{fileRows};
+ghost use Rattle.refusals.specs.Answer.{checked};
+ghost use Rattle.form1.specs.Form1.{fileRefusal};
 ghost use Rattle.form1.specs.Form1.{wrongSize, wrongEnd, wrongForm, wrongSlots, wrongDistance, recordsMissing};
-ghost use Rattle.form1.specs.Opening.{checked};
 use crate::RECORD;
 use crate::fields::TRAILER;
 use crate::fields::byte;
 use crate::fields::distance;
 use crate::fields::slots;
-use refusals::FileRefusal;
+use refusals::Checked;
+use refusals::Refusal;
 
 // The most bytes and the most slots of form 1.
 const MOST_BYTES: usize = 4096;
@@ -19,31 +19,26 @@ const MOST_BYTES: usize = 4096;
 const MOST_SLOTS: usize = 64;
 
 // Whether a file passes 11 to 16, or the first that applies.
-pub enum Checked {
-    Passed,
-    Refused(FileRefusal),
-}
-
 pub(crate) fn check(file: &[u8]) -> Checked
-    ensures { λ r. ⌜ checked r ≡ first (fileRows (now (file .entry))) ⌝ }
+    ensures { λ r. ⌜ checked r ≡ fileRefusal (now (file .entry)) ⌝ }
 {
     if wrong_size(file) {
-        return Checked::Refused(FileRefusal::Size);
+        return Checked::Refused(Refusal::Size);
     }
     if wrong_end(file) {
-        return Checked::Refused(FileRefusal::End);
+        return Checked::Refused(Refusal::End);
     }
     if wrong_form(file) {
-        return Checked::Refused(FileRefusal::Form);
+        return Checked::Refused(Refusal::Form);
     }
     if wrong_slots(file) {
-        return Checked::Refused(FileRefusal::Slots);
+        return Checked::Refused(Refusal::Slots);
     }
     if wrong_distance(file) {
-        return Checked::Refused(FileRefusal::Distance);
+        return Checked::Refused(Refusal::Distance);
     }
     if records_missing(file) {
-        return Checked::Refused(FileRefusal::Records);
+        return Checked::Refused(Refusal::Records);
     }
     Checked::Passed
 }

@@ -6,6 +6,7 @@ ghost use Rattle.form1.specs.Form1.{numberAt, trailer};
 ghost use Rattle.form1.specs.Form1.{distance as Form1·distance, slots as Form1·slots, settings as Form1·settings};
 use crate::bytes::pair;
 use crate::bytes::signed_at;
+use rule::Shape;
 use settings::CountRange;
 use settings::Settings;
 
@@ -49,8 +50,10 @@ pub(crate) fn settings(file: &[u8]) -> Settings
 {
     Settings {
         k: signed_at(file, file.len() - TRAILER + 9),
-        len: byte(file, 3) as u16,
-        h: byte(file, 4) as u16,
+        shape: Shape {
+            len: byte(file, 3) as u16,
+            h: byte(file, 4) as u16,
+        },
         windows: counts(file, 5),
         covered: counts(file, 7),
     }

@@ -1,14 +1,15 @@
 // Form 1, the file on the card: whether a file has it, what its trailer says, and the record at a place. The format is
 // specs/Form1.antt; what comes back is specs/Opening.antt.
 ghost use mathlib.Core.Path.{_≡_};
-ghost use Rattle.form1.specs.Opening.{said, opening, boundsAt};
+ghost use Rattle.form1.specs.Opening.{said, opening, rangeAt};
 use crate::bytes::signed_at;
-use crate::check::Checked;
 use crate::check::check;
 use crate::fields::settings;
 use crate::fields::slots;
 use crate::fields::start;
-use refusals::FileRefusal;
+use refusals::Checked;
+use refusals::Refusal;
+use rule::Range;
 use settings::Settings;
 
 mod bytes;
@@ -26,14 +27,8 @@ pub struct Contents {
 }
 
 pub enum Opened {
-    Refused(FileRefusal),
+    Refused(Refusal),
     Whole(Contents),
-}
-
-// The loads of a record.
-pub struct Bounds {
-    pub lowest: i32,
-    pub highest: i32,
 }
 
 // Gives the first of 11 to 16 that applies, or what the trailer says.
@@ -52,22 +47,22 @@ pub fn open(file: &[u8]) -> Opened
 }
 
 // Gives the record that stands at a place; 0 and 0 where the file has no 8 bytes there.
-pub fn range_at(file: &[u8], place: usize) -> Bounds
-    ensures { λ r. ⌜ r ≡ boundsAt place (now (file .entry)) ⌝ }
+pub fn range_at(file: &[u8], place: usize) -> Range
+    ensures { λ r. ⌜ r ≡ rangeAt place (now (file .entry)) ⌝ }
 {
     if file.len() < RECORD {
-        return Bounds {
+        return Range {
             lowest: 0,
             highest: 0,
         };
     }
     if file.len() - RECORD < place {
-        return Bounds {
+        return Range {
             lowest: 0,
             highest: 0,
         };
     }
-    Bounds {
+    Range {
         lowest: signed_at(file, place),
         highest: signed_at(file, place + 4),
     }

@@ -1,22 +1,23 @@
 -- What the judge says: what it is to be allowed, as three facts; what it says yes to, and what it refuses.
 use Prim.Native.Nat.{ℕ, _≤_}
-use mathlib.Core.Bool.{Bool, true, false, cond, false≢true, _&&_}
-use mathlib.Core.List.{List, [], _∷_}
+use mathlib.Core.Bool.{Bool, true, false, cond, true≢false, _&&_}
+use mathlib.Core.List.{List}
 use mathlib.Core.Logic.{_↔_}
-use mathlib.Core.Option.{Option, none, some}
-use mathlib.Core.Path.{_≡_, refl, ap}
+use mathlib.Core.Option.{none, some}
+use mathlib.Core.Path.{_≡_, refl, sym, ap}
 use borrow.Author.Tests.{le-leb, leb-true}
 use lib.Dec.{leb}
 use lib.IntN.{ℤ}
-use lib.ListN.{length}
 use Rattle.facts.proofs.Rules.{both}
+use Rattle.refusals.proofs.Answer.{refused-by, given-by}
+use Rattle.refusals.specs.Answer.{refuses, gives}
+use Rattle.refusals.specs.declared.Refusal.{Refusal}
 use Rattle.settings.specs.declared.Settings.{Settings}
-use Rattle.judge.specs.Judgment.{Judgment, says, refuses, allowed, unless, judgment}
-use Rattle.settings.specs.Refusals.{refusal}
+use Rattle.judge.specs.Judgment.{Said, says, allowed, judgeRefusal, judgment}
 use Rattle.rule.specs.Rule.{legal, windows, covered}
 
 pub record Allowed (s : Settings) (loads : List ℤ) (marks : List ℕ) : Type 0 where
-  pub in-rule : legal (s .k) (s .len) (s .h) loads marks ≡ true
+  pub in-rule : legal (s .k) (s .shape) loads marks ≡ true
   pub windows-fit : windows marks ≤ s .windows .most
   pub covered-fit : covered marks ≤ s .covered .most
 
@@ -26,7 +27,7 @@ allowing {s} {loads} {marks} = (to, from)
   where
     to : allowed s loads marks ≡ true → Allowed s loads marks
     to e =
-        let yes = legal (s .k) (s .len) (s .h) loads marks in
+        let yes = legal (s .k) (s .shape) loads marks in
         let (front, covered-fit) = both (yes && leb (windows marks) (s .windows .most)) _ e in
         let (in-rule, windows-fit) = both yes _ front in
         record { in-rule = in-rule; windows-fit = leb-true _ _ windows-fit; covered-fit = leb-true _ _ covered-fit }
@@ -35,48 +36,34 @@ allowing {s} {loads} {marks} = (to, from)
     from a = rw (a .in-rule, le-leb _ _ (a .windows-fit), le-leb _ _ (a .covered-fit))
 
 -- what is said, in parts
-abbrev yes? : Judgment → Bool
+abbrev yes? : Said → Bool
 yes? (says b w c) = b
-yes? (refuses n) = false
 
-abbrev counts? : Judgment → ℕ × ℕ
+abbrev counts? : Said → ℕ × ℕ
 counts? (says b w c) = (w, c)
-counts? (refuses n) = (0, 0)
-
-abbrev number? : Judgment → Option ℕ
-number? (says b w c) = none
-number? (refuses n) = some n
 
 module _ (s : Settings) (loads : List ℤ) (marks : List ℕ) where
-  -- what is said where o is the refusal given, and b whether the marks are allowed
-  abbrev saidBy : Option ℕ → Bool → Judgment
-  saidBy o b = unless o (cond b (says true (windows marks) (covered marks)) (says false 0 0))
-
   -- the judge says yes to what is allowed, where it refuses nothing
-  pub saying : refusal (length loads) (length marks ∷ []) s ≡ none → allowed s loads marks ≡ true →
-      judgment s loads marks ≡ says true (windows marks) (covered marks)
+  pub saying : judgeRefusal s loads marks ≡ none → allowed s loads marks ≡ true →
+      judgment s loads marks ≡ gives (says true (windows marks) (covered marks))
   unfolding judgment
   saying e a = rw (e, a)
 
   -- and to nothing else
-  pub said : (w c : ℕ) → judgment s loads marks ≡ says true w c →
-      (refusal (length loads) (length marks ∷ []) s ≡ none) × (allowed s loads marks ≡ true)
-      × (windows marks ≡ w) × (covered marks ≡ c)
+  pub said : (w c : ℕ) → judgment s loads marks ≡ gives (says true w c) →
+      (judgeRefusal s loads marks ≡ none) × (allowed s loads marks ≡ true) × (windows marks ≡ w) × (covered marks ≡ c)
   unfolding judgment
-  said w c j = by (refusal (length loads) (length marks ∷ []) s) (allowed s loads marks) j
+  said w c j =
+      let (o, e) = given-by _ _ j in
+      let (a, windows, covered) = by (allowed s loads marks) e in
+      (o, a, windows, covered)
     where
-      by : (o : Option ℕ) (b : Bool) → saidBy o b ≡ says true w c →
-          (o ≡ none) × (b ≡ true) × (windows marks ≡ w) × (covered marks ≡ c)
-      by (some n) b j = absurd (false≢true (ap yes? j))
-      by none true j = (refl, refl, ap (λ j. counts? j .0) j, ap (λ j. counts? j .1) j)
-      by none false j = absurd (false≢true (ap yes? j))
+      by : (b : Bool) → says true w c ≡ cond b (says true (windows marks) (covered marks)) (says false 0 0) →
+          (b ≡ true) × (windows marks ≡ w) × (covered marks ≡ c)
+      by true e = (refl, ap (λ j. counts? j .0) (sym e), ap (λ j. counts? j .1) (sym e))
+      by false e = absurd (true≢false (ap yes? e))
 
-  -- it refuses with the number that is given, and in no other situation
-  pub refusing : (n : ℕ) → (judgment s loads marks ≡ refuses n) ↔ (refusal (length loads) (length marks ∷ []) s ≡ some n)
+  -- it refuses with the refusal that is given, and in no other situation
+  pub refusing : (r : Refusal) → (judgment s loads marks ≡ refuses r) ↔ (judgeRefusal s loads marks ≡ some r)
   unfolding judgment
-  refusing n = ((λ j. to (refusal (length loads) (length marks ∷ []) s) (allowed s loads marks) (ap number? j)), λ e. rw e)
-    where
-      to : (o : Option ℕ) (b : Bool) → number? (saidBy o b) ≡ some n → o ≡ some n
-      to (some m) b e = e
-      to none true e = e
-      to none false e = e
+  refusing r = refused-by _ _ r

@@ -1,46 +1,45 @@
--- What the judge says, from the tests on the way: `checked`, b and seen are what the functions called there gave.
+-- What the judge says, from the tests on the way: d, k, b, w and c are what the functions called there gave.
 use Prim.Native.Nat.{ℕ, _≤_, _<_}
 use mathlib.Core.Bool.{Bool, true, false, not, and-false}
-use mathlib.Core.List.{List, [], _∷_}
+use mathlib.Core.List.{List}
 use mathlib.Core.Path.{_≡_}
 use borrow.Author.Tests.{le-leb, lt-leb, not-true, not-false}
 use lib.IntN.{ℤ}
 use lib.ListN.{length}
-use Rattle.judge.specs.Judgment.{says, refuses, allowed, judgment}
-use Rattle.refusals.specs.Numbers.{settingsNumber}
-use Rattle.settings.proofs.Passing.{refusal-by}
-use Rattle.settings.specs.Refusals.{wrongOther, refusalBy, refusal, checked}
+use Rattle.judge.specs.Judgment.{says, allowed, judgeRefusal, judgment}
+use Rattle.refusals.specs.Answer.{refuses, gives, checked}
+use Rattle.refusals.specs.declared.Checked.the-variants.{Passed, Refused}
+use Rattle.refusals.specs.declared.Checked.{Checked}
+use Rattle.refusals.specs.declared.Refusal.{Refusal}
+use Rattle.settings.specs.Refusals.{differs, refusal}
 use Rattle.rule.specs.Rule.{legal, windows, covered}
-use Rattle.settings.specs.declared.Checked.the-variants.{Passed, Refused}
-use Rattle.settings.specs.declared.Checked.{Checked}
-use Rattle.refusals.specs.declared.SettingsRefusal.{SettingsRefusal}
 use Rattle.settings.specs.declared.Settings.{Settings}
 
-module _ (s : Settings) (xs : List ℤ) (ms : List ℕ) (d : Bool) (k : Checked) (differs : d ≡ wrongOther (length xs) (length ms ∷ []))
-    (is : checked k ≡ refusalBy (length xs) d s) where
-  given : checked k ≡ refusal (length xs) (length ms ∷ []) s
-  given = refusal-by (length xs) (length ms ∷ []) s differs is
+module _ (s : Settings) (xs : List ℤ) (ms : List ℕ) (d : Bool) (k : Checked) (different : d ≡ differs (length xs) (length ms))
+    (is : checked k ≡ refusal (length xs) d s) where
+  given : checked k ≡ judgeRefusal s xs ms
+  given = rw (← different) is
 
-  pub refused : (r : SettingsRefusal) → k ≡ Refused r → refuses (settingsNumber r) ≡ judgment s xs ms
+  pub refused : (r : Refusal) → k ≡ Refused r → refuses r ≡ judgment s xs ms
   unfolding judgment
   refused r e = rw (← given, e)
 
   module _ (passed : k ≡ Passed) where
-    pub illegal : {b : Bool} → b ≡ legal (s .k) (s .len) (s .h) xs ms → not b ≡ true → says false 0 0 ≡ judgment s xs ms
+    pub illegal : {b : Bool} → b ≡ legal (s .k) (s .shape) xs ms → not b ≡ true → gives (says false 0 0) ≡ judgment s xs ms
     unfolding judgment allowed
     illegal {b} b-is e = rw (← given, passed, ← b-is, not-true b e)
 
     module _ (w c : ℕ) (w-is : w ≡ windows ms) (c-is : c ≡ covered ms) where
-      pub too-many : s .windows .most < w → says false 0 0 ≡ judgment s xs ms
+      pub too-many : s .windows .most < w → gives (says false 0 0) ≡ judgment s xs ms
       unfolding judgment allowed
       too-many h = simp (← given, passed, ← w-is, lt-leb w (s .windows .most), and-false)
 
-      pub too-much : s .covered .most < c → says false 0 0 ≡ judgment s xs ms
+      pub too-much : s .covered .most < c → gives (says false 0 0) ≡ judgment s xs ms
       unfolding judgment allowed
       too-much h = simp (← given, passed, ← c-is, lt-leb c (s .covered .most), and-false)
 
-      pub accepted : {b : Bool} → b ≡ legal (s .k) (s .len) (s .h) xs ms → not b ≡ false → w ≤ s .windows .most →
-          c ≤ s .covered .most → says true w c ≡ judgment s xs ms
+      pub accepted : {b : Bool} → b ≡ legal (s .k) (s .shape) xs ms → not b ≡ false → w ≤ s .windows .most →
+          c ≤ s .covered .most → gives (says true w c) ≡ judgment s xs ms
       unfolding judgment allowed
       accepted {b} b-is e h g =
           simp

@@ -2,4 +2,3 @@ pub mod Allowing
 pub mod Judging
 pub mod Scan
 pub mod Steps
-pub mod Told

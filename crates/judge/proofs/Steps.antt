@@ -12,27 +12,28 @@ use Rattle.rule.specs.Reading.{slotsAfter, bridgesAfter, advanced}
 use Rattle.judge.specs.Steps.{passes, stepOf}
 use Rattle.rule.specs.Rule.{goesWith, follows}
 use Rattle.rule.specs.declared.Reading.{Reading}
+use Rattle.rule.specs.declared.Shape.{Shape}
 use Rattle.judge.specs.declared.marks.Step.the-variants.{On, Broken}
 
-module _ (len h : ℕ) (at : Reading) (o : Bool) (m : ℕ) where
-  pub apart : {g : Bool} → g ≡ goesWith o m → not g ≡ true → Broken ≡ stepOf len h at o m
+module _ (shape : Shape) (at : Reading) (o : Bool) (m : ℕ) where
+  pub apart : {g : Bool} → g ≡ goesWith o m → not g ≡ true → Broken ≡ stepOf shape at o m
   unfolding passes stepOf
   apart {g} is e = rw (← is, not-true g e)
 
-  pub astray : {f : Bool} → f ≡ follows (at .mark) m → not f ≡ true → Broken ≡ stepOf len h at o m
+  pub astray : {f : Bool} → f ≡ follows (at .mark) m → not f ≡ true → Broken ≡ stepOf shape at o m
   unfolding passes stepOf
   astray {f} is e = simp (← is, not-true f e, and-false)
 
   module _ (next : Reading) (is : next ≡ advanced at m) where
-    pub too-long : len < next .slots → Broken ≡ stepOf len h at o m
+    pub too-long : shape .len < next .slots → Broken ≡ stepOf shape at o m
     unfolding passes stepOf
-    too-long l = simp (lt-leb (slotsAfter (at .slots) m) len (rw is at l), and-false)
+    too-long l = simp (lt-leb (slotsAfter (at .slots) m) (shape .len) (rw is at l), and-false)
 
-    pub too-bridged : h < next .bridges → Broken ≡ stepOf len h at o m
+    pub too-bridged : shape .h < next .bridges → Broken ≡ stepOf shape at o m
     unfolding passes stepOf
-    too-bridged b = simp (lt-leb (bridgesAfter (at .bridges) m) h (rw is at b), and-false)
+    too-bridged b = simp (lt-leb (bridgesAfter (at .bridges) m) (shape .h) (rw is at b), and-false)
 
-    pub stepped : {g f : Bool} → g ≡ goesWith o m → not g ≡ false → f ≡ follows (at .mark) m → not f ≡ false → next .slots ≤ len → next .bridges ≤ h → On next ≡ stepOf len h at o m
+    pub stepped : {g f : Bool} → g ≡ goesWith o m → not g ≡ false → f ≡ follows (at .mark) m → not f ≡ false → next .slots ≤ shape .len → next .bridges ≤ shape .h → On next ≡ stepOf shape at o m
     unfolding passes stepOf
     stepped {g} {f} g-is eg f-is ef l b =
         simp (
@@ -41,34 +42,34 @@ module _ (len h : ℕ) (at : Reading) (o : Bool) (m : ℕ) where
           not-false g eg,
           ← f-is,
           not-false f ef,
-          le-leb (slotsAfter (at .slots) m) len (rw is at l),
-          le-leb (bridgesAfter (at .bridges) m) h (rw is at b),
+          le-leb (slotsAfter (at .slots) m) (shape .len) (rw is at l),
+          le-leb (bridgesAfter (at .bridges) m) (shape .h) (rw is at b),
         )
 
-  passed : Passes len h at (goesWith o m) m → passes len h at o m ≡ true
+  passed : Passes shape at (goesWith o m) m → passes shape at o m ≡ true
   unfolding passes
   passed p = rw (p .goes, p .follow, le-leb _ _ (p .fits .slots), le-leb _ _ (p .fits .spare))
 
-  passing : passes len h at o m ≡ true → Passes len h at (goesWith o m) m
+  passing : passes shape at o m ≡ true → Passes shape at (goesWith o m) m
   unfolding passes
   passing e =
-      let (gfl, b) = both (goesWith o m && follows (at .mark) m && leb (slotsAfter (at .slots) m) len) _ e in
+      let (gfl, b) = both (goesWith o m && follows (at .mark) m && leb (slotsAfter (at .slots) m) (shape .len)) _ e in
       let (gf, l) = both (goesWith o m && follows (at .mark) m) _ gfl in
       let (g, f) = both (goesWith o m) _ gf in
       record { goes = g; follow = f; fits = record { slots = leb-true _ _ l; spare = leb-true _ _ b } }
 
-  pub broken : Passes len h at (goesWith o m) m → stepOf len h at o m ≡ Broken → ⊥
+  pub broken : Passes shape at (goesWith o m) m → stepOf shape at o m ≡ Broken → ⊥
   unfolding stepOf
   broken p e =
-      let t : passes len h at o m ≡ true = passed p in
+      let t : passes shape at o m ≡ true = passed p in
       let z : _≡_ {A = ℕ} 0 1 = cc in
       omega arith
 
-  pub taken : (next : Reading) → stepOf len h at o m ≡ On next → Passes len h at (goesWith o m) m × (advanced at m ≡ next)
+  pub taken : (next : Reading) → stepOf shape at o m ≡ On next → Passes shape at (goesWith o m) m × (advanced at m ≡ next)
   unfolding stepOf
-  taken next e = by (passes len h at o m) refl e
+  taken next e = by (passes shape at o m) refl e
     where
-      by : (b : Bool) → passes len h at o m ≡ b → cond b (On (advanced at m)) Broken ≡ On next → Passes len h at (goesWith o m) m × (advanced at m ≡ next)
+      by : (b : Bool) → passes shape at o m ≡ b → cond b (On (advanced at m)) Broken ≡ On next → Passes shape at (goesWith o m) m × (advanced at m ≡ next)
       by true t e = (passing t, cc)
       by false t e = let z : _≡_ {A = ℕ} 0 1 = cc in absurd (omega arith)
 

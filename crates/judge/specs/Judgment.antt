@@ -1,40 +1,42 @@
 -- What the judge says (document 01, "Judge").
 use Prim.Native.Nat.{ℕ}
 use mathlib.Core.Bool.{Bool, true, false, cond, _&&_}
-use mathlib.Core.List.{List, [], _∷_}
-use mathlib.Core.Option.{Option, none, some}
+use mathlib.Core.List.{List}
+use mathlib.Core.Option.{Option}
 use lib.Dec.{leb}
 use lib.IntN.{ℤ}
 use lib.ListN.{length}
+use Rattle.refusals.specs.declared.Refusal.{Refusal}
 use Rattle.settings.specs.declared.Settings.{Settings}
 use Rattle.judge.specs.declared.Verdict.{Verdict}
 use Rattle.judge.specs.declared.Verdict.the-variants.{Yes, No, Refused}
 use Rattle.rule.specs.Rule.{legal, windows, covered}
-use Rattle.refusals.specs.Numbers.{settingsNumber}
-use Rattle.settings.specs.Refusals.{refusal}
+use Rattle.refusals.specs.Answer.{Answer, refuses, gives, answer}
+use Rattle.settings.specs.Refusals.{differs, refusal}
 
--- yes or no with the window and covered counts, or a refusal's number and no counts
-pub data Judgment : Type 0 where
-  says : (yes : Bool) (windows covered : ℕ) → Judgment
-  refuses : (number : ℕ) → Judgment
+-- yes or no, with the window and covered counts
+pub data Said : Type 0 where
+  says : (yes : Bool) (windows covered : ℕ) → Said
 
--- what a verdict says in document 01's numbers: no has both counts 0
+abbrev pub Judgment : Type 0
+Judgment = Answer Said
+
+-- what a verdict says: no has both counts 0
 abbrev pub told : Verdict → Judgment
-told (Yes w c) = says true w c
-told No = says false 0 0
-told (Refused r) = refuses (settingsNumber r)
+told (Yes w c) = gives (says true w c)
+told No = gives (says false 0 0)
+told (Refused r) = refuses r
 
 -- the marks are legal for these loads and both counts are at most their maximums; the minimums take no part
 unfoldable pub allowed : Settings → List ℤ → List ℕ → Bool
 allowed s loads marks =
-    legal (s .k) (s .len) (s .h) loads marks && leb (windows marks) (s .windows .most) && leb (covered marks) (s .covered .most)
+    legal (s .k) (s .shape) loads marks && leb (windows marks) (s .windows .most) && leb (covered marks) (s .covered .most)
 
--- a refusal comes before all else
-abbrev pub unless : Option ℕ → Judgment → Judgment
-unless none j = j
-unless (some n) j = refuses n
+-- which refusal the judge gives, if any
+abbrev pub judgeRefusal : Settings → List ℤ → List ℕ → Option Refusal
+judgeRefusal s loads marks = refusal (length loads) (differs (length loads) (length marks)) s
 
 unfoldable pub judgment : Settings → List ℤ → List ℕ → Judgment
 judgment s loads marks =
-    unless (refusal (length loads) (length marks ∷ []) s)
+    answer (judgeRefusal s loads marks)
     (cond (allowed s loads marks) (says true (windows marks) (covered marks)) (says false 0 0))

@@ -5,20 +5,21 @@ use lib.Dec.{leb, eqb}
 use Rattle.rule.specs.Reading.{slotsAfter, bridgesAfter, advanced}
 use Rattle.rule.specs.Rule.{goesWith, follows}
 use Rattle.rule.specs.declared.Reading.{Reading}
+use Rattle.rule.specs.declared.Shape.{Shape}
 use Rattle.judge.specs.declared.marks.Counts.{Counts}
 use Rattle.judge.specs.declared.marks.Step.{Step}
 use Rattle.judge.specs.declared.marks.Step.the-variants.{On, Broken}
 
 -- a slot's mark m keeps the rule so far
-unfoldable pub passes : (len h : ℕ) → Reading → (over : Bool) (m : ℕ) → Bool
-passes len h at o m =
+unfoldable pub passes : Shape → Reading → (over : Bool) (m : ℕ) → Bool
+passes shape at o m =
     goesWith o m
     && follows (at .mark) m
-    && leb (slotsAfter (at .slots) m) len
-    && leb (bridgesAfter (at .bridges) m) h
+    && leb (slotsAfter (at .slots) m) (shape .len)
+    && leb (bridgesAfter (at .bridges) m) (shape .h)
 
-unfoldable pub stepOf : (len h : ℕ) → Reading → (over : Bool) (m : ℕ) → Step
-stepOf len h at o m = cond (passes len h at o m) (On (advanced at m)) Broken
+unfoldable pub stepOf : Shape → Reading → (over : Bool) (m : ℕ) → Step
+stepOf shape at o m = cond (passes shape at o m) (On (advanced at m)) Broken
 
 abbrev pub countedOf : Counts → ℕ → Counts
 countedOf seen m = record {

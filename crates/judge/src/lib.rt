@@ -1,14 +1,13 @@
 // The judge, as document 01 calls it: whether a finished plan is allowed. What it says is specs/Judgment.antt.
-ghost use mathlib.Core.List.{[], _∷_};
 ghost use mathlib.Core.Path.{_≡_};
-ghost use Rattle.settings.specs.Refusals.{wrongOther};
 ghost use Rattle.judge.specs.Judgment.{judgment, told};
 use crate::marks::count;
 use crate::marks::legal;
-use refusals::SettingsRefusal;
-use settings::Checked;
+use refusals::Checked;
+use refusals::Refusal;
 use settings::Settings;
 use settings::check;
+use settings::differ;
 
 mod marks;
 
@@ -16,15 +15,15 @@ mod marks;
 pub enum Verdict {
     Yes { windows: u16, covered: u16 },
     No,
-    Refused(SettingsRefusal),
+    Refused(Refusal),
 }
 
 // Says yes exactly when the marks are legal for the loads and keep both maximums, with their window and covered counts.
 pub fn judge(settings: Settings, loads: &[i32], marks: &[u8]) -> Verdict
     ensures { λ r. ⌜ told r ≡ judgment settings (now (loads .entry)) (now (marks .entry)) ⌝ }
 {
-    let differs = differ(loads.len(), marks.len());
-    let checked = check(settings, loads.len(), differs);
+    let different = differ(loads.len(), marks.len());
+    let checked = check(settings, loads.len(), different);
     if let Checked::Refused(refusal) = checked {
         return Verdict::Refused(refusal);
     }
@@ -42,11 +41,4 @@ pub fn judge(settings: Settings, loads: &[i32], marks: &[u8]) -> Verdict
         windows: seen.windows,
         covered: seen.covered,
     }
-}
-
-// Whether the marks have another length than the loads, of which there are n: refusal 22.
-fn differ(n: usize, marks: usize) -> bool
-    ensures { λ r. ⌜ r ≡ wrongOther n (marks ∷ []) ⌝ }
-{
-    marks != n
 }

@@ -7,6 +7,7 @@ ghost use Rattle.settings.specs.Refusals.{limit};
 ghost use Rattle.rule.specs.Reading.{advanced};
 ghost use Rattle.judge.specs.Steps.{stepOf, countedOf};
 use rule::Reading;
+use rule::Shape;
 use rule::over;
 use settings::Settings;
 
@@ -91,9 +92,9 @@ fn advance(at: Reading, mark: u8) -> Reading
 }
 
 // Reads one more slot, with its mark and whether its load is over.
-fn read(settings: Settings, at: Reading, over: bool, mark: u8) -> Step
+fn read(shape: Shape, at: Reading, over: bool, mark: u8) -> Step
     requires { ⌜ (at .slots < limit) × (at .bridges < limit) ⌝ }
-    ensures { λ r. ⌜ r ≡ stepOf (settings .len) (settings .h) at over mark ⌝ }
+    ensures { λ r. ⌜ r ≡ stepOf shape at over mark ⌝ }
 {
     if !goes_with(over, mark) {
         return Step::Broken;
@@ -102,10 +103,10 @@ fn read(settings: Settings, at: Reading, over: bool, mark: u8) -> Step
         return Step::Broken;
     }
     let next = advance(at, mark);
-    if next.slots > settings.len {
+    if next.slots > shape.len {
         return Step::Broken;
     }
-    if next.bridges > settings.h {
+    if next.bridges > shape.h {
         return Step::Broken;
     }
     Step::On(next)
@@ -114,7 +115,7 @@ fn read(settings: Settings, at: Reading, over: bool, mark: u8) -> Step
 // Reads the plan from slot 0 on, and stops where a mark breaks the rule.
 pub(crate) fn legal(settings: Settings, loads: &[i32], marks: &[u8]) -> bool
     requires { ⌜ (length (now loads) ≡ length (now marks)) × (length (now marks) ≤ limit) ⌝ }
-    ensures { λ r. ⌜ r ≡ Rule·legal (settings .k) (settings .len) (settings .h) (now (loads .entry)) (now (marks .entry)) ⌝ }
+    ensures { λ r. ⌜ r ≡ Rule·legal (settings .k) (settings .shape) (now (loads .entry)) (now (marks .entry)) ⌝ }
 {
     let mut at = Reading {
         mark: 0,
@@ -124,7 +125,7 @@ pub(crate) fn legal(settings: Settings, loads: &[i32], marks: &[u8]) -> bool
     let mut i = 0;
     while i < marks.len() {
         let is_over = over(settings.k, loads[i]);
-        let Step::On(next) = read(settings, at, is_over, marks[i]) else {
+        let Step::On(next) = read(settings.shape, at, is_over, marks[i]) else {
             return false;
         };
         at = next;

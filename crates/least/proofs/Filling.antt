@@ -1,5 +1,5 @@
 -- Rows, filled from the last slot on, and the window counts that they rule out.
-use Prim.Native.Nat.{ℕ, zero, suc, _+_, _-_, _≤_, _<_, min}
+use Prim.Native.Nat.{ℕ, zero, suc, _+_, _≤_, _<_, min}
 use native.Mathlib.Nat.{le-refl, eq-or-lt-of-le}
 use native.Mathlib.Numerals.{add-one}
 use native.Mathlib.Omega.{arith}
@@ -13,14 +13,14 @@ use lib.ListN.{length, drop, getD, set, replicate, drop-of-length-le, length-map
 use lib.Seq.{getD-set-same, getD-set-other}
 use Rattle.rule.specs.Ranges.{Class}
 use Rattle.settings.specs.declared.Settings.{Settings}
-use Rattle.settings.specs.Refusals.{limit}
+use Rattle.settings.specs.Refusals.{limit, places}
 use Rattle.rule.proofs.Coding.{can-be-uncovered, cannot-be-uncovered}
 use Rattle.requests.proofs.Exact.{fewer}
 use Rattle.requests.proofs.Least.{fewest-is}
 use Rattle.least.proofs.Scanning.{from-slot}
 use Rattle.requests.specs.Best.{spend, dearer, best}
 use Rattle.rule.specs.Codes.{coded, decoded}
-use Rattle.least.specs.Rows.{Behind, leastFrom, onwardFrom, firstBelow}
+use Rattle.least.specs.Rows.{Row, Behind, leastFrom, onwardFrom, firstBelow}
 use Rattle.requests.specs.Solution.{sentinel}
 
 module _ (s : Settings) (classes : List ℕ) where
@@ -32,7 +32,7 @@ module _ (s : Settings) (classes : List ℕ) where
   least i w = leastFrom s cs i w
 
   abbrev covers : (w : ℕ) → ℕ
-  covers w = best sentinel (s .len - 1) (s .h) cs w
+  covers w = best sentinel (s .shape) cs w
 
   -- a slot that can be uncovered is left so
   pub skipped : (i w next : ℕ) → i < length classes → (getD classes i 0 ≡ 1 → ⊥) → next ≡ least (i + 1) w → next ≡ least i w
@@ -56,19 +56,19 @@ module _ (s : Settings) (classes : List ℕ) where
   -- a row that is filled from slot i on
   pub record RowFrom (behind row : List ℕ) (i : ℕ) : Type 0 where
     pub inside : i ≤ length classes
-    pub wide : length row ≡ 65
+    pub wide : length row ≡ places
     pub counts : (w : ℕ) → Behind s cs w behind → (j : ℕ) → i ≤ j → j ≤ limit → getD row j 0 ≡ least j w
 
   module _ {behind : List ℕ} where
-    pub last : length classes ≤ limit → RowFrom behind (replicate 65 0) (length classes)
+    pub last : length classes ≤ limit → RowFrom behind (replicate places 0) (length classes)
     unfolding best
     last e =
         record {
           inside = le-refl _;
-          wide = length-replicate {A = ℕ} 65 0;
+          wide = length-replicate {A = ℕ} places 0;
           counts = λ w b j p q.
               let none : drop j cs ≡ [] = drop-of-length-le cs {i = j} (omega (arith, p, length-map classes coded)) in
-              rw none (getD-replicate 65 j 0 0 (omega arith));
+              rw none (getD-replicate places j 0 0 (omega arith));
         }
 
     pub one-down : (row : List ℕ) (i v : ℕ) {j : ℕ} → length classes ≤ limit → j ≡ i + 1 → RowFrom behind row j →
@@ -87,15 +87,12 @@ module _ (s : Settings) (classes : List ℕ) where
               (eq-or-lt-of-le p);
         }
 
-    pub whole : {row : List ℕ} {i : ℕ} → i ≤ 0 → RowFrom behind row i → (w : ℕ) → Behind s cs w behind →
-        Behind s cs (w + 1) row
-    whole e f w b =
-        rw add-one
-        (record { wide = f .wide; counts = λ j l. f .counts w b j (omega arith) l })
+    pub whole : {row : List ℕ} {i : ℕ} → i ≤ 0 → RowFrom behind row i → (w : ℕ) → Behind s cs w behind → Row s cs w row
+    whole e f w b = record { wide = f .wide; counts = λ j l. f .counts w b j (omega arith) l }
 
-  -- what a row tells at a slot
-  pub at-slot : {row : List ℕ} (w i : ℕ) → Behind s cs (w + 1) row → i ≤ limit → getD row i 0 ≡ least i w
-  at-slot w i b e = (rw add-one at b) .counts i e
+  -- a row is what comes behind a window of one more
+  row-behind : {row : List ℕ} {w : ℕ} → Row s cs w row → Behind s cs (w + 1) row
+  row-behind r = rw add-one (record { wide = r .wide; counts = r .counts })
 
   abbrev c : ℕ
   c = s .covered .most
@@ -128,12 +125,12 @@ module _ (s : Settings) (classes : List ℕ) where
           }
       by false e (inr l) =
           let dear : c < covers v = leb-false _ _ e in
-          absurd (omega (arith, dear, p .enough l, fewer sentinel (s .len - 1) (s .h) cs (p .within)))
+          absurd (omega (arith, dear, p .enough l, fewer sentinel (s .shape) cs (p .within)))
 
   -- which is the count that `fewest` finds
   all-passed : (w first : ℕ) → Passed w first → first ≡ firstBelow s cs w
   all-passed w first p =
-      fewest-is sentinel (s .len - 1) (s .h) cs c w 0 first (omega arith) (omega (arith, p .within))
+      fewest-is sentinel (s .shape) cs c w 0 first (omega arith) (omega (arith, p .within))
       (λ u _ l. p .dear u l) (λ l. p .enough (omega arith))
 
   -- the row of v windows, and the window counts below v
@@ -141,22 +138,22 @@ module _ (s : Settings) (classes : List ℕ) where
     pub row : Behind s cs v behind
     pub passed : Passed v first
 
-  pub no-rows : length classes ≤ limit → Rowed 0 (replicate 65 sentinel) 0
+  pub no-rows : length classes ≤ limit → Rowed 0 (replicate places sentinel) 0
   no-rows e =
       record {
         row = record {
-          wide = length-replicate {A = ℕ} 65 sentinel;
-          counts = λ i l. getD-replicate 65 i sentinel 0 (omega arith);
+          wide = length-replicate {A = ℕ} places sentinel;
+          counts = λ i l. getD-replicate places i sentinel 0 (omega arith);
         };
         passed = none-passed;
       }
 
   pub one-more : (v first more : ℕ) {behind row : List ℕ} → Rowed v behind first →
-      ((w : ℕ) → Behind s cs w behind → Behind s cs (w + 1) row) → more ≡ cond (leb (getD row 0 0) c) 0 1 →
+      ((w : ℕ) → Behind s cs w behind → Row s cs w row) → more ≡ cond (leb (getD row 0 0) c) 0 1 →
       Rowed (v + 1) row (first + more)
   one-more v first more r next is =
       let row = next v (r .row) in
-      record { row = row; passed = rw (is, at-slot v 0 row (omega arith)) (one-passed v first (r .passed)) }
+      record { row = row-behind row; passed = rw (is, row .counts 0 (omega arith)) (one-passed v first (r .passed)) }
 
   pub all-rows : {v w first : ℕ} {behind : List ℕ} → v ≡ w → Rowed v behind first →
       Behind s cs w behind × (first ≡ firstBelow s cs w)

@@ -10,10 +10,11 @@ use lib.Dec.{eqb}
 use lib.ListN.{length, drop, getD, drop-of-length-le, length-map, List·getD-map}
 use Rattle.facts.proofs.Rules.{uncons, either-way}
 use Rattle.rule.specs.Ranges.{Class, allows}
+use Rattle.rule.specs.declared.Shape.{Shape}
 use Rattle.settings.specs.declared.Settings.{Settings}
 use Rattle.settings.specs.Refusals.{limit}
 use Rattle.requests.proofs.Exact.{spend-capped, onward-le, no-room}
-use Rattle.requests.specs.Best.{spend, dearer, best, onward, after}
+use Rattle.requests.specs.Best.{spend, dearer, onward, beyond, after}
 use Rattle.rule.specs.Codes.{coded, decoded}
 use Rattle.least.specs.Rows.{Behind, goneOn, wentOn}
 use Rattle.requests.specs.Solution.{sentinel}
@@ -29,16 +30,16 @@ from-slot classes i e =
     uncons (decoded classes) i (coded 0) (omega (arith, e, length-map classes coded))
     ∙ ap (λ c. c ∷ drop (i + 1) (decoded classes)) (List·getD-map coded classes i 0)
 
-module _ (room h : ℕ) where
+module _ (shape : Shape) where
   -- the least covered count in a window that goes on, and behind one
   abbrev pub goesOn : (w : ℕ) → List Class → (r b : ℕ) → ℕ
-  goesOn w cs r b = spend sentinel w λ v. onward sentinel room h cs r b v
+  goesOn w cs r b = spend sentinel w λ v. onward sentinel shape cs r b v
 
   abbrev pub behindIt : (w : ℕ) → List Class → ℕ
-  behindIt w cs = spend sentinel w λ v. best sentinel room h cs v
+  behindIt w cs = spend sentinel w λ v. beyond sentinel shape cs v
 
   goes-on-le : (w : ℕ) (cs : List Class) (r b : ℕ) → goesOn w cs r b ≤ sentinel
-  goes-on-le w cs r b = spend-capped sentinel (onward-le sentinel room h cs r b) w
+  goes-on-le w cs r b = spend-capped sentinel (onward-le sentinel shape cs r b) w
 
   -- one slot more, that can be over or not
   abbrev oneOn : (w : ℕ) (over : Bool) → List Class → (r b : ℕ) → ℕ
@@ -50,7 +51,7 @@ module _ (room h : ℕ) where
     where
       by : (w : ℕ) (over : Bool) (b : ℕ) →
           spend sentinel w (λ v.
-          dearer sentinel (cond over (after sentinel room h cs r b v) (spend sentinel b λ b. onward sentinel room h cs r b v)))
+          dearer sentinel (cond over (after sentinel shape cs r b v) (spend sentinel b λ b. onward sentinel shape cs r b v)))
           ≡ oneOn w over cs r b
       by (suc w) over b = refl
       by zero true b = omega arith
@@ -59,7 +60,7 @@ module _ (room h : ℕ) where
 
   all-used : (w : ℕ) (cs : List Class) (b : ℕ) → goesOn w cs 0 b ≡ sentinel
   all-used zero cs b = refl
-  all-used (suc w) cs b = no-room sentinel room h cs b w
+  all-used (suc w) cs b = no-room sentinel shape cs b w
 
   none-left : (w r b : ℕ) → goesOn w [] r b ≡ sentinel
   unfolding onward
@@ -115,7 +116,7 @@ module _ (classes behind : List ℕ) (from slots bridges : ℕ) where
     pub short : g .covered ≤ i
     pub small : g .least ≤ sentinel
     pub same : (s : Settings) (w : ℕ) → Behind s cs w behind →
-        total (s .len - 1) (s .h) w g (drop i cs) ≡ goesOn (s .len - 1) (s .h) w (drop from cs) slots bridges
+        total (s .shape) w g (drop i cs) ≡ goesOn (s .shape) w (drop from cs) slots bridges
 
   pub starts : from ≤ length classes → Scan (record { slots = slots; bridges = bridges; covered = 0; least = sentinel }) from
   starts e =
@@ -123,7 +124,7 @@ module _ (classes behind : List ℕ) (from slots bridges : ℕ) where
         inside = e;
         short = omega arith;
         small = omega arith;
-        same = λ s w b. omega (arith, goes-on-le (s .len - 1) (s .h) w (drop from cs) slots bridges);
+        same = λ s w b. omega (arith, goes-on-le (s .shape) w (drop from cs) slots bridges);
       }
 
   module _ (g : Going) (i : ℕ) (scan : Scan g i) where
@@ -138,20 +139,20 @@ module _ (classes behind : List ℕ) (from slots bridges : ℕ) where
           small = omega (arith, no-more, scan .small);
           same = λ s w b.
               rw (b .counts (i + 1) (omega arith))
-              (on-total (s .len - 1) (s .h) w g _ _ r ∙ rw (← from-slot classes i e) (scan .same s w b));
+              (on-total (s .shape) w g _ _ r ∙ rw (← from-slot classes i e) (scan .same s w b));
         }
 
     -- where the slots or the room are at an end, for a window that had all its slots left
-    pub ends : (length classes ≤ i) ⊎ (g .slots ≡ 0) → (s : Settings) → slots ≡ s .len - 1 → (w : ℕ) → Behind s cs w behind →
-        g .least ≡ goesOn (s .len - 1) (s .h) w (drop from cs) (s .len - 1) bridges
+    pub ends : (length classes ≤ i) ⊎ (g .slots ≡ 0) → (s : Settings) → slots ≡ s .shape .len - 1 → (w : ℕ) → Behind s cs w behind →
+        g .least ≡ goesOn (s .shape) w (drop from cs) (s .shape .len - 1) bridges
     ends e s all w b =
-        let over : goesOn (s .len - 1) (s .h) w (drop i cs) (g .slots) (g .bridges) ≡ sentinel =
+        let over : goesOn (s .shape) w (drop i cs) (g .slots) (g .bridges) ≡ sentinel =
         ⊎-elim
         (λ l.
         let none : drop i cs ≡ [] = drop-of-length-le cs {i = i} (omega (arith, l, length-map classes coded)) in
-        rw none (none-left (s .len - 1) (s .h) w (g .slots) (g .bridges)))
-        (λ z. rw z (all-used (s .len - 1) (s .h) w (drop i cs) (g .bridges)))
+        rw none (none-left (s .shape) w (g .slots) (g .bridges)))
+        (λ z. rw z (all-used (s .shape) w (drop i cs) (g .bridges)))
         e in
-        let found : g .least ≡ goesOn (s .len - 1) (s .h) w (drop from cs) slots bridges =
+        let found : g .least ≡ goesOn (s .shape) w (drop from cs) slots bridges =
         omega (arith, over, scan .small, scan .same s w b) in
-        found ∙ ap (λ r. goesOn (s .len - 1) (s .h) w (drop from cs) r bridges) all
+        found ∙ ap (λ r. goesOn (s .shape) w (drop from cs) r bridges) all

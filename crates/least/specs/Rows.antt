@@ -7,28 +7,38 @@ use lib.Dec.{eqb}
 use lib.ListN.{length, drop, getD}
 use Rattle.rule.specs.Ranges.{Class, allows}
 use Rattle.settings.specs.declared.Settings.{Settings}
-use Rattle.settings.specs.Refusals.{limit}
-use Rattle.requests.specs.Best.{spend, best, onward, fewest}
+use Rattle.settings.specs.Refusals.{limit, places}
+use Rattle.requests.specs.Best.{spend, best, onward, beyond, fewest}
 use Rattle.requests.specs.Solution.{sentinel}
 use Rattle.least.specs.declared.Going.{Going}
 
 -- the least covered count of the slots from i on, with at most w windows
 abbrev pub leastFrom : Settings → List Class → (i w : ℕ) → ℕ
-leastFrom s cs i w = best sentinel (s .len - 1) (s .h) (drop i cs) w
+leastFrom s cs i w = best sentinel (s .shape) (drop i cs) w
 
--- the same in a window that has its first slot right before and goes on
+-- the same after a window that closed right before
+abbrev pub beyondFrom : Settings → List Class → (i w : ℕ) → ℕ
+beyondFrom s cs i w = beyond sentinel (s .shape) (drop i cs) w
+
+-- and in a window that has its first slot right before and goes on
 abbrev pub onwardFrom : Settings → List Class → (i w : ℕ) → ℕ
-onwardFrom s cs i w = onward sentinel (s .len - 1) (s .h) (drop i cs) (s .len - 1) (s .h) w
+onwardFrom s cs i w = onward sentinel (s .shape) (drop i cs) (s .shape .len - 1) (s .shape .h) w
 
 -- the first of the window counts below w with which the covered maximum is kept, or w
 abbrev pub firstBelow : Settings → List Class → (w : ℕ) → ℕ
-firstBelow s cs w = fewest sentinel (s .len - 1) (s .h) cs (s .covered .most) 0 w
+firstBelow s cs w = fewest sentinel (s .shape) cs (s .covered .most) 0 w
 
--- The row holds what comes behind a window, where at most w windows are left with it: for each slot the least covered count of
--- the slots from there on, with one window fewer. Past the last slot that is 0. Where w is 0 there is no plan.
-pub record Behind (s : Settings) (cs : List Class) (w : ℕ) (row : List ℕ) : Type 0 where
-  pub wide : length row ≡ 65
-  pub counts : (i : ℕ) → i ≤ limit → getD row i 0 ≡ spend sentinel w (leastFrom s cs i)
+-- A row of least counts: for each slot the least covered count of the slots from there on, with at most w windows. Past the
+-- last slot that is 0.
+pub record Row (s : Settings) (cs : List Class) (w : ℕ) (row : List ℕ) : Type 0 where
+  pub wide : length row ≡ places
+  pub counts : (i : ℕ) → i ≤ limit → getD row i 0 ≡ leastFrom s cs i w
+
+-- What comes behind a window, where at most w windows are left with it: for each slot the least covered count from there on after
+-- it, with one window fewer. Where w is 0 there is no plan.
+pub record Behind (s : Settings) (cs : List Class) (w : ℕ) (behind : List ℕ) : Type 0 where
+  pub wide : length behind ≡ places
+  pub counts : (i : ℕ) → i ≤ limit → getD behind i 0 ≡ spend sentinel w (beyondFrom s cs i)
 
 -- A window one slot on, with the least covered count of what comes behind that slot. One that can be over is taken as over, and the
 -- window may close there; any other is a bridge, where one is left.

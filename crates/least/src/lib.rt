@@ -5,14 +5,15 @@ ghost use mathlib.Core.Path.{_≡_};
 ghost use lib.Dec.{leb};
 ghost use Prim.Native.Nat.{ℕ, _+_, _-_, _≤_, _<_, min};
 ghost use lib.ListN.{length, take};
-ghost use Rattle.settings.specs.Refusals.{limit};
+ghost use Rattle.settings.specs.Refusals.{limit, places};
 ghost use Rattle.requests.specs.Best.{spend};
 ghost use Rattle.rule.specs.Codes.{coded, decoded};
-ghost use Rattle.least.specs.Rows.{Behind, leastFrom, onwardFrom, firstBelow, wentOn};
+ghost use Rattle.least.specs.Rows.{Row, Behind, leastFrom, onwardFrom, firstBelow, wentOn};
 ghost use Rattle.requests.specs.Solution.{sentinel, cheapest, sparsest};
 use rule::OVER;
 use rule::UNDER;
 use settings::LIMIT;
+use settings::PLACES;
 use settings::Settings;
 
 // The covered count that stands for "no plan". Counts are capped there, so that they are the least only below it.
@@ -32,7 +33,7 @@ pub struct Going {
 // it has 0. Where w is 0 it has NO_PLAN at all places. `first` is the first window count below w with which the covered
 // maximum is kept, or w; a maximum of NO_PLAN is always kept.
 pub struct Filled {
-    pub behind: [u16; 65],
+    pub behind: [u16; PLACES],
     pub first: u16,
 }
 
@@ -106,14 +107,14 @@ fn room(len: u16) -> u16
 }
 
 // The least covered count of the slots from one on, in a window that has its first slot right before and goes on.
-fn onward(settings: Settings, classes: &[u8], behind: &[u16; 65], from: usize) -> u16
-    requires { ⌜ (length (now classes) ≤ limit) × (from ≤ length (now classes)) × (length (now behind) ≡ 65) ⌝ }
+fn onward(settings: Settings, classes: &[u8], behind: &[u16; PLACES], from: usize) -> u16
+    requires { ⌜ (length (now classes) ≤ limit) × (from ≤ length (now classes)) × (length (now behind) ≡ places) ⌝ }
     ensures { λ r. ⌜ ((w : ℕ) → Behind settings (decoded (now (classes .entry))) w (now (behind .entry)) →
         r ≡ spend sentinel w (onwardFrom settings (decoded (now (classes .entry))) from)) ⌝ }
 {
     let mut going = Going {
-        slots: room(settings.len),
-        bridges: settings.h,
+        slots: room(settings.shape.len),
+        bridges: settings.shape.h,
         covered: 0,
         least: NO_PLAN,
     };
@@ -126,8 +127,8 @@ fn onward(settings: Settings, classes: &[u8], behind: &[u16; 65], from: usize) -
 }
 
 // The least covered count of the slots from one on, given that of the slots behind it.
-fn covers(settings: Settings, classes: &[u8], behind: &[u16; 65], i: usize, next: u16) -> u16
-    requires { ⌜ (length (now classes) ≤ limit) × (i < length (now classes)) × (length (now behind) ≡ 65) ⌝ }
+fn covers(settings: Settings, classes: &[u8], behind: &[u16; PLACES], i: usize, next: u16) -> u16
+    requires { ⌜ (length (now classes) ≤ limit) × (i < length (now classes)) × (length (now behind) ≡ places) ⌝ }
     ensures { λ r. ⌜ ((w : ℕ) → Behind settings (decoded (now (classes .entry))) w (now (behind .entry)) →
         next ≡ leastFrom settings (decoded (now (classes .entry))) (i + 1) w →
         r ≡ leastFrom settings (decoded (now (classes .entry))) i w) ⌝ }
@@ -139,13 +140,13 @@ fn covers(settings: Settings, classes: &[u8], behind: &[u16; 65], i: usize, next
     together(1, smaller(behind[i + 1], later))
 }
 
-// The row for one window more.
-fn next_row(settings: Settings, classes: &[u8], behind: &[u16; 65]) -> [u16; 65]
-    requires { ⌜ (length (now classes) ≤ limit) × (length (now behind) ≡ 65) ⌝ }
+// A row of least counts, by what comes after a window.
+fn next_row(settings: Settings, classes: &[u8], behind: &[u16; PLACES]) -> [u16; PLACES]
+    requires { ⌜ (length (now classes) ≤ limit) × (length (now behind) ≡ places) ⌝ }
     ensures { λ r. ⌜ ((w : ℕ) → Behind settings (decoded (now (classes .entry))) w (now (behind .entry)) →
-        Behind settings (decoded (now (classes .entry))) (w + 1) r) ⌝ }
+        Row settings (decoded (now (classes .entry))) w r) ⌝ }
 {
-    let mut row = [0; 65];
+    let mut row = [0; PLACES];
     let mut i = classes.len();
     while i > 0 {
         i -= 1;
@@ -170,7 +171,7 @@ fn fill(settings: Settings, classes: &[u8], w: u16) -> Filled
     ensures { λ r. ⌜ Behind settings (decoded (now (classes .entry))) w (r .behind)
         × (r .first ≡ firstBelow settings (decoded (now (classes .entry))) w) ⌝ }
 {
-    let mut behind = [NO_PLAN; 65];
+    let mut behind = [NO_PLAN; PLACES];
     let mut first = 0;
     let mut v = 0;
     while v < w {
@@ -206,7 +207,7 @@ fn fitting(n: usize) -> usize
     n
 }
 
-// What comes after a window, of the first 64 slots, as `Filled` says. The settings are not checked: a len of 0 counts
+// What comes after a window, of the first LIMIT slots, as `Filled` says. The settings are not checked: a len of 0 counts
 // as 1.
 pub fn rows(settings: Settings, classes: &[u8], w: u16) -> Filled
     ensures { λ r. ⌜ Behind settings (decoded (take limit (now (classes .entry)))) w (r .behind)
@@ -216,7 +217,7 @@ pub fn rows(settings: Settings, classes: &[u8], w: u16) -> Filled
     fill(settings, &classes[..n], w)
 }
 
-// Both least counts of the first 64 slots, as `Least` says. The settings are not checked: a len of 0 counts as 1.
+// Both least counts of the first LIMIT slots, as `Least` says. The settings are not checked: a len of 0 counts as 1.
 pub fn low(settings: Settings, classes: &[u8]) -> Least
     ensures { λ r. ⌜ (r .windows ≡ sparsest settings (decoded (take limit (now (classes .entry)))))
         × (r .covered ≡ cheapest settings (decoded (take limit (now (classes .entry))))) ⌝ }

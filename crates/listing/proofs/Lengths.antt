@@ -1,5 +1,5 @@
 -- How long a text can be, for the types of its numbers: together at most `room`.
-use Prim.Native.Nat.{ℕ, suc, _+_, _≤_, _<_, _^_}
+use Prim.Native.Nat.{ℕ, suc, _+_, _*_, _≤_, _<_, _^_}
 use native.Mathlib.Omega.{arith}
 use mathlib.Core.List.{List, [], _∷_, _++_}
 use mathlib.Core.Path.{_≡_}
@@ -8,10 +8,12 @@ use lib.ListN.{length, length-append}
 use mir.Syntax.{w32}
 use mir.Val.{SFits}
 use Rattle.settings.specs.declared.CountRange.{CountRange}
+use Rattle.refusals.specs.Answer.{gives}
 use Rattle.requests.specs.Promise.{no-plan, planned}
-use Rattle.requests.specs.Request.{numbered, at-slot}
+use Rattle.requests.specs.declared.PlanCounts.{PlanCounts}
+use Rattle.settings.specs.Refusals.{limit}
 use Rattle.listing.proofs.Decimals.{digits-at-most}
-use Rattle.listing.specs.Text.{ascii, decimal, signed, line, counts, row, rows, refusal, said, room}
+use Rattle.listing.specs.Text.{ascii, decimal, signed, line, counts, row, rows, said, rowRoom, room}
 
 -- each field takes one byte more
 abbrev fieldsLength : List (List ℕ) → ℕ
@@ -29,13 +31,13 @@ unfolding signed
 signed-short (pos n) f = let small : n < 2147483648 = f .sfits in omega (arith, digits-at-most n 9 (omega arith))
 signed-short (negsuc n) f = let small : n < 2147483648 = f .sfits in omega (arith, digits-at-most (suc n) 9 (omega arith))
 
-pub row-short : (i : ℕ) (lo hi : ℤ) (m : ℕ) → i < 64 → SFits w32 lo → SFits w32 hi → m < 256 → length (row i lo hi m) ≤ 31
+pub row-short : (i : ℕ) (lo hi : ℤ) (m : ℕ) → i < limit → SFits w32 lo → SFits w32 hi → m < 256 → length (row i lo hi m) ≤ rowRoom
 unfolding row
 row-short i lo hi m h f g k =
     omega (
       arith,
       line-length (decimal i) (signed lo ∷ signed hi ∷ decimal m ∷ []),
-      digits-at-most i 1 (omega arith),
+      digits-at-most i 2 (omega arith),
       signed-short lo f,
       signed-short hi g,
       digits-at-most m 2 (omega arith),
@@ -52,21 +54,20 @@ counts-short word range h f g =
       digits-at-most (range .most) 4 (omega arith),
     )
 
-pub refused-short : (number : ℕ) → number < 65536 → length (refusal (numbered number)) ≤ room
-unfolding refusal
-refused-short number h = omega (arith, line-length (ascii "refused") (decimal number ∷ []), digits-at-most number 4 (omega arith))
+pub alone-short : (code : ℕ) → code < 65536 → length (line (ascii "refused" ∷ decimal code ∷ [])) ≤ room
+alone-short code h = omega (arith, line-length (ascii "refused") (decimal code ∷ []), digits-at-most code 4 (omega arith))
 
-pub crossed-short : (i : ℕ) → i < 2 ^ 64 → length (refusal (at-slot 31 i)) ≤ room
-unfolding refusal
-crossed-short i h =
+pub with-slot-short : (code i : ℕ) → code < 65536 → i < 2 ^ 64 →
+    length (line (ascii "refused" ∷ decimal code ∷ ascii "slot" ∷ decimal i ∷ [])) ≤ room
+with-slot-short code i h g =
     omega (
       arith,
-      line-length (ascii "refused") (decimal 31 ∷ ascii "slot" ∷ decimal i ∷ []),
-      digits-at-most 31 1 (omega arith),
+      line-length (ascii "refused") (decimal code ∷ ascii "slot" ∷ decimal i ∷ []),
+      digits-at-most code 4 (omega arith),
       digits-at-most i 19 (omega arith),
     )
 
-pub no-plan-short : length (said no-plan [] [] []) ≤ room
+pub no-plan-short : length (said (gives no-plan) [] [] []) ≤ room
 unfolding said
 no-plan-short = omega (arith, line-length (ascii "no plan") [])
 
@@ -74,14 +75,14 @@ no-plan-short = omega (arith, line-length (ascii "no plan") [])
 abbrev Small : CountRange → Type 0
 Small range = (range .least < 65536) × (range .most < 65536)
 
-pub planned-short : (w c : CountRange) (los his : List ℤ) (ms : List ℕ) → Small w → Small c → length (rows 0 los his ms) ≤ 1984 →
-    length (said (planned w c) los his ms) ≤ room
+pub planned-short : (n : PlanCounts) (los his : List ℤ) (ms : List ℕ) → Small (n .windows) → Small (n .covered) →
+    length (rows 0 los his ms) ≤ rowRoom * limit → length (said (gives (planned n)) los his ms) ≤ room
 unfolding said
-planned-short w c los his ms (wl, wm) (cl, cm) h =
+planned-short n los his ms (wl, wm) (cl, cm) h =
     omega (
       arith,
-      length-append (counts (ascii "windows") w) (counts (ascii "covered") c ++ rows 0 los his ms),
-      length-append (counts (ascii "covered") c) (rows 0 los his ms),
-      counts-short (ascii "windows") w (omega arith) wl wm,
-      counts-short (ascii "covered") c (omega arith) cl cm,
+      length-append (counts (ascii "windows") (n .windows)) (counts (ascii "covered") (n .covered) ++ rows 0 los his ms),
+      length-append (counts (ascii "covered") (n .covered)) (rows 0 los his ms),
+      counts-short (ascii "windows") (n .windows) (omega arith) wl wm,
+      counts-short (ascii "covered") (n .covered) (omega arith) cl cm,
     )

@@ -7,8 +7,9 @@ use mathlib.Core.Path.{_≡_, refl, ap, _∙_}
 use lib.IntN.{ℤ, pos}
 use lib.ListN.{length, getD, drop, length-append, length-drop}
 use Rattle.facts.proofs.Rules.{uncons}
+use Rattle.settings.specs.Refusals.{limit}
 use Rattle.listing.proofs.Writing.{Left, all-left, less-left, nothing, written-length}
-use Rattle.listing.specs.Text.{row, rows, Written}
+use Rattle.listing.specs.Text.{row, rows, Written, rowRoom}
 
 abbrev shortest : (lowest highest : List ℤ) (marks : List ℕ) → ℕ
 shortest los his ms = min (length los) (min (length his) (length ms))
@@ -44,14 +45,14 @@ module _ (los his : List ℤ) (ms : List ℕ) where
     pub passed : i ≤ shortest los his ms
     pub left : Left (rows 0 los his ms) place before (onward i) out here
     pub inside : here ≤ length out
-    pub short : length los ≤ 64 → length (rows 0 los his ms) ≤ i * 31 + length (onward i)
+    pub short : length los ≤ limit → length (rows 0 los his ms) ≤ i * rowRoom + length (onward i)
 
   pub all-slots : {place : ℕ} {before : List ℕ} → place ≤ length before → SlotsLeft place before 0 before place
   all-slots h = record { passed = omega arith; left = all-left; inside = h; short = λ wide. omega arith }
 
   module _ {place i here : ℕ} {before out : List ℕ} (s : SlotsLeft place before i out here) where
     pub next-slot : {next : List ℕ} {behind : ℕ} → i < shortest los his ms → Written (rowAt i) here out next behind →
-        (i < 64 → length (rowAt i) ≤ 31) → SlotsLeft place before (i + 1) next behind
+        (i < limit → length (rowAt i) ≤ rowRoom) → SlotsLeft place before (i + 1) next behind
     next-slot h w short =
         record {
           passed = omega arith;
@@ -67,5 +68,5 @@ module _ (los his : List ℤ) (ms : List ℕ) where
       pub no-slot : Written (rows 0 los his ms) place before out here
       no-slot = (rw ended at (s .left)) .whole out here (nothing (s .inside))
 
-      pub all-short : length los ≤ 64 → length (rows 0 los his ms) ≤ 1984
+      pub all-short : length los ≤ limit → length (rows 0 los his ms) ≤ rowRoom * limit
       all-short wide = omega (arith, s .short wide, s .passed, ap length ended)

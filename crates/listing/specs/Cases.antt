@@ -3,21 +3,22 @@
 use mathlib.Core.List.{[], _∷_}
 use mathlib.Core.Path.{_≡_}
 use lib.IntN.{pos, negsuc}
-use Rattle.requests.specs.Cases.{_‥_, loads}
+use Rattle.refusals.specs.Answer.{gives}
+use Rattle.refusals.specs.declared.Refusal.the-variants.{FirstLength, Crossed}
+use Rattle.requests.specs.Cases.{_‥_, loads, counts}
 use Rattle.requests.specs.Promise.{no-plan, planned}
-use Rattle.requests.specs.Request.{numbered, at-slot}
 use Rattle.listing.specs.Text.{ascii, row, refusal, said, text}
 
 pub record Cases : Type 0 where
   pub case-a : text
       (record {
-        answer = planned (1 ‥ 1) (3 ‥ 4);
+        answer = gives (planned (counts (1 ‥ 1) (3 ‥ 4)));
         lowest = loads (1 ∷ 1 ∷ 5 ∷ 0 ∷ []);
         highest = loads (3 ∷ 4 ∷ 5 ∷ 0 ∷ []);
         marks = 1 ∷ 2 ∷ 2 ∷ 0 ∷ [];
       })
       ≡ ascii "windows 1 1\ncovered 3 4\n0 1 3 1\n1 1 4 2\n2 5 5 2\n3 0 0 0\n"
   pub ends-of-the-loads : row 63 (negsuc 2147483647) (pos 2147483647) 255 ≡ ascii "63 -2147483648 2147483647 255\n"
-  pub of-no-plan : said no-plan [] [] [] ≡ ascii "no plan\n"
-  pub refusal-21 : refusal (numbered 21) ≡ ascii "refused 21\n"
-  pub refusal-31 : refusal (at-slot 31 12) ≡ ascii "refused 31 slot 12\n"
+  pub of-no-plan : said (gives no-plan) [] [] [] ≡ ascii "no plan\n"
+  pub refusal-21 : refusal FirstLength ≡ ascii "refused 21\n"
+  pub refusal-31 : refusal (Crossed 12) ≡ ascii "refused 31 slot 12\n"

@@ -6,13 +6,16 @@ use Prim.Native.String as string
 use mathlib.Core.Bool.{cond}
 use mathlib.Core.List.{List, [], _∷_, _++_}
 use mathlib.Core.Path.{_≡_}
-use lib.Dec.{ltb}
+use lib.Dec.{eqb, ltb}
 use lib.IntN.{ℤ, pos, negsuc}
 use lib.ListN.{length, getD}
 use lib.Seq.{sets}
+use Rattle.refusals.specs.Answer.{Answer, refuses, gives}
+use Rattle.refusals.specs.Numbers.{number, slot}
+use Rattle.refusals.specs.declared.Refusal.{Refusal}
+use Rattle.settings.specs.Refusals.{limit}
 use Rattle.settings.specs.declared.CountRange.{CountRange}
-use Rattle.requests.specs.Promise.{Answer, refuses, no-plan, planned, Outcome}
-use Rattle.requests.specs.Request.{Refused, numbered, at-slot}
+use Rattle.requests.specs.Promise.{Result, no-plan, planned, Outcome}
 
 -- the bytes of a text of ASCII
 abbrev pub ascii : String → List ℕ
@@ -70,15 +73,19 @@ rows i (lo ∷ los) (hi ∷ his) [] = []
 rows i (lo ∷ los) (hi ∷ his) (m ∷ ms) = row i lo hi m ++ rows (suc i) los his ms
 
 -- on a refusal `refused` and the number, and for 31 also `slot` and its number
-unfoldable pub refusal : Refused → List ℕ
-refusal (numbered number) = line (ascii "refused" ∷ decimal number ∷ [])
-refusal (at-slot number i) = line (ascii "refused" ∷ decimal number ∷ ascii "slot" ∷ decimal i ∷ [])
+unfoldable pub refusal : Refusal → List ℕ
+refusal r =
+    cond
+    (eqb (number r) 31)
+    (line (ascii "refused" ∷ decimal (number r) ∷ ascii "slot" ∷ decimal (slot r) ∷ []))
+    (line (ascii "refused" ∷ decimal (number r) ∷ []))
 
 -- on "planned" both count ranges, then the slots
-unfoldable pub said : Answer → (lowest highest : List ℤ) (marks : List ℕ) → List ℕ
+unfoldable pub said : Answer Result → (lowest highest : List ℤ) (marks : List ℕ) → List ℕ
 said (refuses r) los his ms = refusal r
-said no-plan los his ms = line (ascii "no plan" ∷ [])
-said (planned w c) los his ms = counts (ascii "windows") w ++ (counts (ascii "covered") c ++ rows 0 los his ms)
+said (gives no-plan) los his ms = line (ascii "no plan" ∷ [])
+said (gives (planned n)) los his ms =
+    counts (ascii "windows") (n .windows) ++ (counts (ascii "covered") (n .covered) ++ rows 0 los his ms)
 
 -- the whole text
 unfoldable pub text : Outcome → List ℕ
@@ -90,7 +97,10 @@ pub record Written (text : List ℕ) (place : ℕ) (before after : List ℕ) (be
   pub stored : after ≡ sets before place text
   pub ends : behind ≡ min (place + length text) (length before)
 
--- Room for the longest text of an answer with at most 64 slots: two lines of counts with 5 digits, and for each slot 2 digits,
--- two loads of 11 bytes and a mark of 3 digits.
+-- Room for the line of a slot: its number of 3 digits, two loads of 11 bytes, a mark of 3 digits, and a byte behind each.
+abbrev pub rowRoom : ℕ
+rowRoom = 32
+
+-- Room for the text of every answer with at most the limit's slots: two lines of counts with 5 digits, and the slots.
 abbrev pub room : ℕ
-room = 2024
+room = 40 + rowRoom * limit

@@ -1,6 +1,7 @@
 // The text of an answer, as the plan printer writes it. What it is stands in specs/Text.antt.
 ghost use Prim.Native.Nat.{_≤_};
 ghost use lib.ListN.{length};
+ghost use Rattle.settings.specs.Refusals.{limit};
 ghost use Rattle.listing.specs.Text.{text, Written, room};
 ghost use Rattle.filter.specs.Answers.{handed};
 use filter::Answer;
@@ -21,20 +22,12 @@ pub fn answered(
     ensures { λ r. ⌜ Written
         (text (handed answer (now (lowest .entry)) (now (highest .entry)) (now (marks .entry))))
         0 (now (out .entry)) (now (out .exit)) r ⌝ }
-    ensures { λ _. ⌜ (length (now (lowest .entry)) ≤ 64 →
+    ensures { λ _. ⌜ (length (now (lowest .entry)) ≤ limit →
         length (text (handed answer (now (lowest .entry)) (now (highest .entry)) (now (marks .entry)))) ≤ room) ⌝ }
 {
     match answer {
-        Answer::Refused(refusal) => refused(refusal.number(), out),
-        Answer::Crossed(slot) => lines::crossed(slot, out),
+        Answer::Refused(refusal) => refused(refusal, out),
         Answer::NoPlan => lines::no_plan(out),
-        Answer::Planned { windows, covered } => lines::planned(
-            windows,
-            covered,
-            lowest,
-            highest,
-            marks,
-            out,
-        ),
+        Answer::Planned(counts) => lines::planned(counts, lowest, highest, marks, out),
     }
 }

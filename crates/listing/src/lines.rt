@@ -2,15 +2,18 @@
 // there.
 ghost use mathlib.Core.List.{[]};
 ghost use mathlib.Core.Path.{_≡_};
-ghost use Prim.Native.Nat.{_≤_, min};
+ghost use Prim.Native.Nat.{_*_, _≤_, min};
 ghost use lib.ListN.{length};
 ghost use Rattle.listing.specs.Text.{counts as Text·counts, row as Text·row, rows as Text·rows};
-ghost use Rattle.listing.specs.Text.{said, refusal, Written, room};
+ghost use Rattle.listing.specs.Text.{refusal as Text·refusal, said, Written, rowRoom, room};
+ghost use Rattle.refusals.specs.Answer.{gives};
 ghost use Rattle.requests.specs.Promise.{no-plan, planned as Promise·planned};
-ghost use Rattle.requests.specs.Request.{numbered, at-slot};
+ghost use Rattle.settings.specs.Refusals.{limit};
 use crate::put::number;
 use crate::put::signed;
 use crate::put::word;
+use refusals::Refusal;
+use requests::PlanCounts;
 use settings::CountRange;
 
 const SPACE: u8 = b' ';
@@ -18,7 +21,7 @@ const SPACE: u8 = b' ';
 const LINE_FEED: u8 = b'\n';
 
 // A count range, with its name before it.
-fn counts(name: &[u8], range: CountRange, out: &mut [u8], place: usize) -> usize
+fn range(name: &[u8], range: CountRange, out: &mut [u8], place: usize) -> usize
     ensures { λ r. ⌜ Written (Text·counts (now (name .entry)) range) place (now (out .entry)) (now (out .exit)) r ⌝ }
 {
     let least = word(name, SPACE, out, place);
@@ -36,13 +39,13 @@ fn row(i: usize, lowest: i32, highest: i32, mark: u8, out: &mut [u8], place: usi
     number(mark as u64, LINE_FEED, out, last)
 }
 
-// All slots, up to the end of the shortest slice: with 31 bytes for each, at most 1984 for 64.
+// All slots, up to the end of the shortest slice.
 fn rows(lowest: &[i32], highest: &[i32], marks: &[u8], out: &mut [u8], place: usize) -> usize
     requires { ⌜ place ≤ length (now out) ⌝ }
     ensures { λ r. ⌜ Written (Text·rows 0 (now (lowest .entry)) (now (highest .entry)) (now (marks .entry)))
         place (now (out .entry)) (now (out .exit)) r ⌝ }
-    ensures { λ _. ⌜ (length (now (lowest .entry)) ≤ 64 →
-        length (Text·rows 0 (now (lowest .entry)) (now (highest .entry)) (now (marks .entry))) ≤ 1984) ⌝ }
+    ensures { λ _. ⌜ (length (now (lowest .entry)) ≤ limit →
+        length (Text·rows 0 (now (lowest .entry)) (now (highest .entry)) (now (marks .entry))) ≤ rowRoom * limit) ⌝ }
 {
     let n = smaller(lowest.len(), smaller(highest.len(), marks.len()));
     let mut behind = place;
@@ -65,49 +68,43 @@ fn smaller(a: usize, b: usize) -> usize
     a
 }
 
-// A refusal by its number alone, as that of a card that is not read.
-pub fn refused(code: u16, out: &mut [u8]) -> usize
-    ensures { λ r. ⌜ Written (refusal (numbered code)) 0 (now (out .entry)) (now (out .exit)) r ⌝ }
-    ensures { λ _. ⌜ length (refusal (numbered code)) ≤ room ⌝ }
+// A refusal, as that of a card that is not read: its number, and for 31 also the slot.
+pub fn refused(refusal: Refusal, out: &mut [u8]) -> usize
+    ensures { λ r. ⌜ Written (Text·refusal refusal) 0 (now (out .entry)) (now (out .exit)) r ⌝ }
+    ensures { λ _. ⌜ length (Text·refusal refusal) ≤ room ⌝ }
 {
-    let behind = word(b"refused", SPACE, out, 0);
-    number(code as u64, LINE_FEED, out, behind)
-}
-
-// Refusal 31.
-pub(crate) fn crossed(i: usize, out: &mut [u8]) -> usize
-    ensures { λ r. ⌜ Written (refusal (at-slot 31 i)) 0 (now (out .entry)) (now (out .exit)) r ⌝ }
-    ensures { λ _. ⌜ length (refusal (at-slot 31 i)) ≤ room ⌝ }
-{
-    let code = word(b"refused", SPACE, out, 0);
-    let slot = number(31, SPACE, out, code);
-    let behind = word(b"slot", SPACE, out, slot);
-    number(i as u64, LINE_FEED, out, behind)
+    let code = refusal.number();
+    let first = word(b"refused", SPACE, out, 0);
+    if code != 31 {
+        return number(code as u64, LINE_FEED, out, first);
+    }
+    let second = number(code as u64, SPACE, out, first);
+    let slot = word(b"slot", SPACE, out, second);
+    number(refusal.slot() as u64, LINE_FEED, out, slot)
 }
 
 pub(crate) fn no_plan(out: &mut [u8]) -> usize
-    ensures { λ r. ⌜ Written (said no-plan [] [] []) 0 (now (out .entry)) (now (out .exit)) r ⌝ }
-    ensures { λ _. ⌜ length (said no-plan [] [] []) ≤ room ⌝ }
+    ensures { λ r. ⌜ Written (said (gives no-plan) [] [] []) 0 (now (out .entry)) (now (out .exit)) r ⌝ }
+    ensures { λ _. ⌜ length (said (gives no-plan) [] [] []) ≤ room ⌝ }
 {
     word(b"no plan", LINE_FEED, out, 0)
 }
 
 // The lines of "planned".
 pub(crate) fn planned(
-    windows: CountRange,
-    covered: CountRange,
+    counts: PlanCounts,
     lowest: &[i32],
     highest: &[i32],
     marks: &[u8],
     out: &mut [u8],
 ) -> usize
     ensures { λ r. ⌜ Written
-        (said (Promise·planned windows covered) (now (lowest .entry)) (now (highest .entry)) (now (marks .entry)))
+        (said (gives (Promise·planned counts)) (now (lowest .entry)) (now (highest .entry)) (now (marks .entry)))
         0 (now (out .entry)) (now (out .exit)) r ⌝ }
-    ensures { λ _. ⌜ (length (now (lowest .entry)) ≤ 64 → length
-        (said (Promise·planned windows covered) (now (lowest .entry)) (now (highest .entry)) (now (marks .entry))) ≤ room) ⌝ }
+    ensures { λ _. ⌜ (length (now (lowest .entry)) ≤ limit → length
+        (said (gives (Promise·planned counts)) (now (lowest .entry)) (now (highest .entry)) (now (marks .entry))) ≤ room) ⌝ }
 {
-    let second = counts(b"windows", windows, out, 0);
-    let slots = counts(b"covered", covered, out, second);
+    let second = range(b"windows", counts.windows, out, 0);
+    let slots = range(b"covered", counts.covered, out, second);
     rows(lowest, highest, marks, out, slots)
 }

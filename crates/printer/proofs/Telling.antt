@@ -7,16 +7,16 @@ use lib.ListN.{take}
 use Rattle.card.specs.Reading.{handed, reading}
 use Rattle.card.specs.declared.Reading.{Reading}
 use Rattle.card.specs.declared.Reading.the-variants.{Refused, Taken}
-use Rattle.refusals.specs.Numbers.{fileNumber}
-use Rattle.refusals.specs.declared.FileRefusal.{FileRefusal}
+use Rattle.refusals.specs.Answer.{refuses}
+use Rattle.refusals.specs.declared.Refusal.{Refusal}
 use Rattle.settings.specs.declared.Settings.{Settings}
-use Rattle.requests.specs.Promise.{refuses, Outcome, Keeps}
-use Rattle.requests.specs.Request.{asked, numbered}
+use Rattle.requests.specs.Promise.{Outcome, Keeps}
+use Rattle.requests.specs.Request.{asked}
 use Rattle.printer.specs.Printing.{Answered, OfFile}
 
--- the outcome of a refusal by its number; nothing more is printed of it
-abbrev pub refusal-of : (number : ℕ) → Outcome
-refusal-of number = record { answer = refuses (numbered number); lowest = []; highest = []; marks = [] }
+-- the outcome of a refusal; nothing more is printed of it
+abbrev pub refusal-of : Refusal → Outcome
+refusal-of f = record { answer = refuses f; lowest = []; highest = []; marks = [] }
 
 module _ (file : List ℕ) (los his : List ℤ) (ms : List ℕ) {r : Reading} {los′ his′ : List ℤ}
     (read : handed r los′ his′ ≡ reading file los his) where
@@ -24,7 +24,7 @@ module _ (file : List ℕ) (los his : List ℤ) (ms : List ℕ) {r : Reading} {l
       Answered (handed q los′ his′ .answer) los′ his′ ms o → OfFile file los his ms o
   by {q} e o a = subst (λ x. Answered (x .answer) (x .lowest) (x .highest) ms o) (ap (λ p. handed p los′ his′) (sym e) ∙ read) a
 
-  pub of-refusal : {f : FileRefusal} → r ≡ Refused f → OfFile file los his ms (refusal-of (fileNumber f))
+  pub of-refusal : {f : Refusal} → r ≡ Refused f → OfFile file los his ms (refusal-of f)
   of-refusal e = by e _ refl
 
   pub of-plan : {s : Settings} {n : ℕ} → r ≡ Taken s n → (o : Outcome) →

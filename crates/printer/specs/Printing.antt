@@ -7,8 +7,9 @@ use lib.ListN.{length, take, replicate}
 use Rattle.refusals.specs.Answer.{Answer, refuses, gives}
 use Rattle.card.specs.Reading.{Header, reading}
 use Rattle.listing.specs.Text.{text, Written}
-use Rattle.requests.specs.Promise.{refuses as Promise·refuses, Outcome, Keeps}
-use Rattle.requests.specs.Request.{asked, numbered}
+use Rattle.requests.specs.Promise.{Outcome, Keeps}
+use Rattle.requests.specs.Request.{asked}
+use Rattle.settings.specs.Refusals.{limit}
 
 -- of a file on standard input at most so many bytes are held
 abbrev pub held : ℕ
@@ -23,15 +24,15 @@ pub record Printed (P : Outcome → Type 0) (before after : List ℕ) (behind : 
 
 -- a refusal of the reader, or what the filter hands back for what was read, in the first n places of the slices
 abbrev pub Answered : Answer Header → (lowest highest : List ℤ) (marks : List ℕ) → Outcome → Type 0
-Answered (refuses number) los his ms o = o .answer ≡ Promise·refuses (numbered number)
+Answered (refuses r) los his ms o = o .answer ≡ refuses r
 Answered (gives h) los his ms o = Keeps (asked (h .settings) (take (h .n) los) (take (h .n) his) (take (h .n) ms)) o
 
 abbrev pub OfFile : (file : List ℕ) (lowest highest : List ℤ) (marks : List ℕ) → Outcome → Type 0
 OfFile file los his ms = let r = reading file los his in Answered (r .answer) (r .lowest) (r .highest) ms
 
--- the slices that the printer lends, of 64 places
+-- the slices that the printer lends
 abbrev pub loads : List ℤ
-loads = replicate 64 (pos 0)
+loads = replicate limit (pos 0)
 
 abbrev pub marks : List ℕ
-marks = replicate 64 0
+marks = replicate limit 0

@@ -2,6 +2,7 @@
 ghost use mathlib.Core.Path.{_≡_};
 ghost use Prim.Native.Nat.{_≤_};
 ghost use lib.ListN.{length};
+ghost use Rattle.settings.specs.Refusals.{limit};
 ghost use Rattle.requests.specs.Request.{asked};
 ghost use Rattle.listing.specs.Text.{room};
 ghost use Rattle.printer.specs.Printing.{held, Printed, OfFile, loads, marks as Printing·marks};
@@ -11,13 +12,14 @@ use card::read;
 use filter::filter;
 use libc::STDIN_FILENO;
 use libc::STDOUT_FILENO;
+use settings::LIMIT;
 use settings::Settings;
 
 // How many bytes of a file are held: one more than it may have, so that a longer one is refused.
 const HELD: usize = 4097;
 
 // Room for the text of every answer: `print` asks for at least `room` bytes.
-const ROOM: usize = 2024;
+const ROOM: usize = 40 + 32 * LIMIT;
 
 // What was read of a file: the first bytes, `size` of them.
 pub struct Input {
@@ -48,13 +50,13 @@ fn print(file: &[u8], text: &mut [u8]) -> usize
     requires { ⌜ room ≤ length (now text) ⌝ }
     ensures { λ r. ⌜ Printed (OfFile (now (file .entry)) loads loads Printing·marks) (now (text .entry)) (now (text .exit)) r ⌝ }
 {
-    let mut lowest = [0i32; 64];
-    let mut highest = [0i32; 64];
-    let mut marks = [0u8; 64];
+    let mut lowest = [0i32; LIMIT];
+    let mut highest = [0i32; LIMIT];
+    let mut marks = [0u8; LIMIT];
     print_with(file, &mut lowest, &mut highest, &mut marks, text)
 }
 
-// The text for a file, with slices of 64 places to work in.
+// The text for a file, with slices to work in.
 fn print_with(
     file: &[u8],
     lowest: &mut [i32],
@@ -62,13 +64,13 @@ fn print_with(
     marks: &mut [u8],
     text: &mut [u8],
 ) -> usize
-    requires { ⌜ (length (now lowest) ≡ 64) × (length (now highest) ≡ 64) × (length (now marks) ≡ 64) ⌝ }
+    requires { ⌜ (length (now lowest) ≡ limit) × (length (now highest) ≡ limit) × (length (now marks) ≡ limit) ⌝ }
     requires { ⌜ room ≤ length (now text) ⌝ }
     ensures { λ r. ⌜ Printed (OfFile (now (file .entry)) (now (lowest .entry)) (now (highest .entry)) (now (marks .entry)))
         (now (text .entry)) (now (text .exit)) r ⌝ }
 {
     match read(file, lowest, highest) {
-        Reading::Refused(refusal) => listing::refused(refusal.number(), text),
+        Reading::Refused(refusal) => listing::refused(refusal, text),
         Reading::Taken { settings, n } => print_plan(
             settings,
             &mut lowest[..n],
@@ -87,7 +89,7 @@ fn print_plan(
     marks: &mut [u8],
     text: &mut [u8],
 ) -> usize
-    requires { ⌜ (length (now lowest) ≤ 64) × (room ≤ length (now text)) ⌝ }
+    requires { ⌜ (length (now lowest) ≤ limit) × (room ≤ length (now text)) ⌝ }
     ensures { λ r. ⌜ Printed (Keeps (asked settings (now (lowest .entry)) (now (highest .entry)) (now (marks .entry))))
         (now (text .entry)) (now (text .exit)) r ⌝ }
 {

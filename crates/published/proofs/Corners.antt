@@ -9,26 +9,27 @@ use lib.ListN.{length, drop}
 use lib.Signed.{_<ℤ_}
 use Rattle.rule.proofs.Onward.{as-long}
 use Rattle.rule.proofs.Tally.{covered-le}
-use Rattle.rule.specs.Rule.{carries}
+use Rattle.rule.specs.Rule.{carries, shaped}
+use Rattle.rule.specs.declared.Shape.{Shape}
 use Rattle.published.proofs.Sets.{Within, _∈_, each, each-to, all, some, which}
 use Rattle.published.proofs.Slots.{From, from, all-over, each-over}
 use Rattle.published.proofs.Walk.{drawn}
 use Rattle.published.specs.Published.{Run, Holds, size, Some, sum, load, bridges, Window, Obeys}
 use Rattle.published.specs.Published.{Focus, SpringyFocus, WeightedFocus, WeightedSpringyFocus}
 
-module _ (X : List ℤ) (yc len h : ℕ) (k : ℤ) (zc : ℕ) (S : List Run) (o : Obeys k len h yc zc X S) where
+module _ (X : List ℤ) (yc : ℕ) (shape : Shape) (k : ℤ) (zc : ℕ) (S : List Run) (o : Obeys k shape yc zc X S) where
   -- other maximums
-  pub recount : {yc′ zc′ : ℕ} → length S ≤ yc′ → sum size S ≤ zc′ → Obeys k len h yc′ zc′ X S
+  pub recount : {yc′ zc′ : ℕ} → length S ≤ yc′ → sum size S ≤ zc′ → Obeys k shape yc′ zc′ X S
   recount number summed = record { set = o .set; cover = o .cover; kept = o .kept; number = number; summed = summed }
 
   -- disjoint windows have no more slots than there are: they are drawn by marks
   no-more : sum size S ≤ length X
   no-more =
-      let (ms, e, to, fro, ws, cs) = drawn k len h yc zc X S o in
-      omega (arith, cs, covered-le ms, as-long (carries k) len h X ms e)
+      let (ms, e, to, fro, ws, cs) = drawn k shape yc zc X S o in
+      omega (arith, cs, covered-le ms, as-long (carries k) shape X ms e)
 
   -- so a covered maximum of n has no force
-  pub without-force : Obeys k len h yc (length X) X S
+  pub without-force : Obeys k shape yc (length X) X S
   without-force = recount (o .number) no-more
 
 -- with no bridges allowed, a slot is covered exactly when it is over
@@ -43,20 +44,20 @@ module _ (X : List ℤ) (k : ℤ) (s : Run) (w : Within (length X) s) where
   over-within u j hs = each-over k X (size s) slots-from u j (hs .0) (omega (arith, w, hs)) (omega (arith, w, hs))
 
 module _ (X : List ℤ) (yc len : ℕ) (k : ℤ) (zc : ℕ) (S : List Run) where
-  pub weighted : WeightedFocus X yc len k zc S ↔ Obeys k len 0 yc zc X S
+  pub weighted : WeightedFocus X yc len k zc S ↔ Obeys k (shaped len 0) yc zc X S
   weighted = (to, from)
     where
-      to : WeightedFocus X yc len k zc S → Obeys k len 0 yc zc X S
+      to : WeightedFocus X yc len k zc S → Obeys k (shaped len 0) yc zc X S
       to d =
           record {
             set = d .set;
             cover = λ l ln. d .c2 l ln .0;
-            kept = all (Window k len 0 X) S kept;
+            kept = all (Window k (shaped len 0) X) S kept;
             number = d .c1;
             summed = d .c4;
           }
         where
-          kept : (s : Run) → s ∈ S → Window k len 0 X s
+          kept : (s : Run) → s ∈ S → Window k (shaped len 0) X s
           kept s m =
               let w = each (Within (length X)) (d .set .0) m in
               let over : (j : ℕ) → Holds j s → k <ℤ load X j = λ j hs. d .c2 j (omega (arith, w, hs)) .1 (some (Holds j) m hs) in
@@ -67,52 +68,52 @@ module _ (X : List ℤ) (yc len : ℕ) (k : ℤ) (zc : ℕ) (S : List Run) where
                 spare = no-bridges X k s w over;
               }
 
-      from : Obeys k len 0 yc zc X S → WeightedFocus X yc len k zc S
+      from : Obeys k (shaped len 0) yc zc X S → WeightedFocus X yc len k zc S
       from o =
           record {
             set = o .set;
             c1 = o .number;
             c2 = λ l ln. (o .cover l ln, over l);
-            c3 = each-to (Window k len 0 X) _ (λ s w. w .slots) S (o .kept);
+            c3 = each-to (Window k (shaped len 0) X) _ (λ s w. w .slots) S (o .kept);
             c4 = o .summed;
           }
         where
           over : (l : ℕ) → Some (Holds l) S → k <ℤ load X l
           over l e =
               let (s, m, hs) = which (Holds l) S e in
-              over-within X k s (each (Within (length X)) (o .set .0) m) (each (Window k len 0 X) (o .kept) m .spare) l hs
+              over-within X k s (each (Within (length X)) (o .set .0) m) (each (Window k (shaped len 0) X) (o .kept) m .spare) l hs
 
 module _ (X : List ℤ) (yc len h : ℕ) (k : ℤ) (zc : ℕ) (S : List Run) where
-  abbrev Shape : Run → Type 0
-  Shape s = (size s ≤ len) × (k <ℤ load X (s .first)) × (k <ℤ load X (s .last))
+  abbrev Slots : Run → Type 0
+  Slots s = (size s ≤ len) × (k <ℤ load X (s .first)) × (k <ℤ load X (s .last))
 
-  pub weightedSpringy : WeightedSpringyFocus X yc len h k zc S ↔ Obeys k len h yc zc X S
+  pub weightedSpringy : WeightedSpringyFocus X yc len h k zc S ↔ Obeys k (shaped len h) yc zc X S
   weightedSpringy = (to, from)
     where
-      to : WeightedSpringyFocus X yc len h k zc S → Obeys k len h yc zc X S
-      to d = record { set = d .set; cover = d .c2; kept = all (Window k len h X) S kept; number = d .c1; summed = d .c5 }
+      to : WeightedSpringyFocus X yc len h k zc S → Obeys k (shaped len h) yc zc X S
+      to d = record { set = d .set; cover = d .c2; kept = all (Window k (shaped len h) X) S kept; number = d .c1; summed = d .c5 }
         where
-          kept : (s : Run) → s ∈ S → Window k len h X s
+          kept : (s : Run) → s ∈ S → Window k (shaped len h) X s
           kept s m =
-              let (slots, begins, ends) = each Shape (d .c4) m in
+              let (slots, begins, ends) = each Slots (d .c4) m in
               record { begins = begins; ends = ends; slots = slots; spare = each (λ s. bridges k X s ≤ h) (d .c3) m }
 
-      from : Obeys k len h yc zc X S → WeightedSpringyFocus X yc len h k zc S
+      from : Obeys k (shaped len h) yc zc X S → WeightedSpringyFocus X yc len h k zc S
       from o =
           record {
             set = o .set;
             c1 = o .number;
             c2 = o .cover;
-            c3 = each-to (Window k len h X) _ (λ s w. w .spare) S (o .kept);
-            c4 = each-to (Window k len h X) Shape (λ s w. (w .slots, w .begins, w .ends)) S (o .kept);
+            c3 = each-to (Window k (shaped len h) X) _ (λ s w. w .spare) S (o .kept);
+            c4 = each-to (Window k (shaped len h) X) Slots (λ s w. (w .slots, w .begins, w .ends)) S (o .kept);
             c5 = o .summed;
           }
 
 -- the other two have no weight, so that any covered maximum does, for a start the summed length
-pub focus : (X : List ℤ) (yc len : ℕ) (k : ℤ) (S : List Run) → Focus X yc len k S ↔ Obeys k len 0 yc (length X) X S
+pub focus : (X : List ℤ) (yc len : ℕ) (k : ℤ) (S : List Run) → Focus X yc len k S ↔ Obeys k (shaped len 0) yc (length X) X S
 focus X yc len k S = (to, from)
   where
-    to : Focus X yc len k S → Obeys k len 0 yc (length X) X S
+    to : Focus X yc len k S → Obeys k (shaped len 0) yc (length X) X S
     to d =
         let weights : WeightedFocus X yc len k (sum size S) S = record {
           set = d .set;
@@ -121,16 +122,16 @@ focus X yc len k S = (to, from)
           c3 = d .c3;
           c4 = le-refl _;
         } in
-        without-force X yc len 0 k _ S (weighted X yc len k _ S .0 weights)
+        without-force X yc (shaped len 0) k _ S (weighted X yc len k _ S .0 weights)
 
-    from : Obeys k len 0 yc (length X) X S → Focus X yc len k S
+    from : Obeys k (shaped len 0) yc (length X) X S → Focus X yc len k S
     from o = let d = weighted X yc len k _ S .1 o in record { set = d .set; c1 = d .c1; c2 = d .c2; c3 = d .c3 }
 
 pub springy : (X : List ℤ) (yc len h : ℕ) (k : ℤ) (S : List Run) →
-    SpringyFocus X yc len h k S ↔ Obeys k len h yc (length X) X S
+    SpringyFocus X yc len h k S ↔ Obeys k (shaped len h) yc (length X) X S
 springy X yc len h k S = (to, from)
   where
-    to : SpringyFocus X yc len h k S → Obeys k len h yc (length X) X S
+    to : SpringyFocus X yc len h k S → Obeys k (shaped len h) yc (length X) X S
     to d =
         let weights : WeightedSpringyFocus X yc len h k (sum size S) S = record {
           set = d .set;
@@ -140,9 +141,9 @@ springy X yc len h k S = (to, from)
           c4 = d .c3;
           c5 = le-refl _;
         } in
-        without-force X yc len h k _ S (weightedSpringy X yc len h k _ S .0 weights)
+        without-force X yc (shaped len h) k _ S (weightedSpringy X yc len h k _ S .0 weights)
 
-    from : Obeys k len h yc (length X) X S → SpringyFocus X yc len h k S
+    from : Obeys k (shaped len h) yc (length X) X S → SpringyFocus X yc len h k S
     from o =
         let d = weightedSpringy X yc len h k _ S .1 o in
         record { set = d .set; c1 = d .c1; c2 = d .c2; c3 = d .c4; c4 = d .c3 }

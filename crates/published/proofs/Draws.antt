@@ -10,28 +10,29 @@ use lib.IntN.{ℤ}
 use lib.ListN.{length, take}
 use lib.Signed.{_<ℤ_, clashℤ}
 use Rattle.rule.proofs.Loads.{carried-over, carried-under}
-use Rattle.rule.proofs.NoWindows.{no-windows, at-any-length}
-use Rattle.rule.proofs.Plan.{State, out, on, PlanBy, done, skip, opens, close, more as longer, bridges as bridged, legal→plan}
-use Rattle.rule.specs.Rule.{goesWith, rest, count, carries, legal, windows, covered}
+use Rattle.rule.proofs.NoWindows.{no-windows, in-any-shape}
+use Rattle.rule.proofs.Plan.{State, out, on, PlanBy, done, skip, opens, close, more as longer, bridges as bridged, legal→plan, nonzero-same}
+use Rattle.rule.specs.Rule.{goesWith, rest, count, carries, legal, nonzero, windows, covered}
+use Rattle.rule.specs.declared.Shape.{Shape}
 use Rattle.published.proofs.Sets.{Within, Apart, each-to, each-of-none}
 use Rattle.published.proofs.Slots.{From, none, more, from, from-drop, unders-over, unders-under}
 use Rattle.published.specs.Published.{Run, Holds, size, Each, Some, sum, Disjoint, load, unders, Window, Obeys, runs}
 
 -- the windows that marks draw obey the rule, and are as many and as long as the marks say
-abbrev Draws : (k : ℤ) (len h : ℕ) (X : List ℤ) (ms : List ℕ) → Type 0
-Draws k len h X ms =
-    Obeys k len h (windows ms) (covered ms) X (runs 0 ms)
+abbrev Draws : (k : ℤ) (shape : Shape) (X : List ℤ) (ms : List ℕ) → Type 0
+Draws k shape X ms =
+    Obeys k shape (windows ms) (covered ms) X (runs 0 ms)
     × (length (runs 0 ms) ≡ windows ms) × (sum size (runs 0 ms) ≡ covered ms)
 
-module _ (k : ℤ) (room h : ℕ) where
+module _ (k : ℤ) (shape : Shape) where
   -- no window is under way outside one
-  pub fresh : {q : ℕ} {xs : List ℤ} {ms : List ℕ} → PlanBy (carries k) room h (out q) xs ms → length (rest ms) ≡ 0
+  pub fresh : {q : ℕ} {xs : List ℤ} {ms : List ℕ} → PlanBy (carries k) shape (out q) xs ms → length (rest ms) ≡ 0
   unfolding rest
   fresh done = refl
   fresh (skip g p) = refl
   fresh (opens g p) = refl
 
-module _ (k : ℤ) (room h : ℕ) (X : List ℤ) where
+module _ (k : ℤ) (shape : Shape) (X : List ℤ) where
   abbrev Over : ℕ → Type 0
   Over l = k <ℤ load X l
 
@@ -48,10 +49,10 @@ module _ (k : ℤ) (room h : ℕ) (X : List ℤ) where
     ends : Over (i + length (rest ms))
 
   rests : {c : Bool} {i r b : ℕ} {xs : List ℤ} {ms : List ℕ} →
-      PlanBy (carries k) room h (on c r b) xs ms → From X (suc i) xs → i < length X → Closes c i → Rest i r b xs ms
+      PlanBy (carries k) shape (on c r b) xs ms → From X (suc i) xs → i < length X → Closes c i → Rest i r b xs ms
   unfolding rest unders goesWith
   rests {i = i} (close p) f hi (over-slot o) =
-      let n = fresh k room h p in
+      let n = fresh k shape p in
       record {
         slots = omega (arith, n);
         spare = rw n (omega arith);
@@ -82,7 +83,7 @@ module _ (k : ℤ) (room h : ℕ) (X : List ℤ) where
   record Behind (a : ℕ) (s : Run) : Type 0 where
     behind : a ≤ s .first
     within : Within (length X) s
-    window : Window k (suc room) h X s
+    window : Window k (nonzero shape) X s
 
   later : {a a′ : ℕ} → a′ ≤ a → (S : List Run) → Each (Behind a) S → Each (Behind a′) S
   later {a} {a′} e S ws =
@@ -126,7 +127,7 @@ module _ (k : ℤ) (room h : ℕ) (X : List ℤ) where
     goes-on lj (inr c) = inr c
 
   -- the first window of the marks that are drawn from slot l on
-  opened : {l : ℕ} {xs : List ℤ} (ms : List ℕ) → From X l (load X l ∷ xs) → Over l → Rest l room h xs ms →
+  opened : {l : ℕ} {xs : List ℤ} (ms : List ℕ) → From X l (load X l ∷ xs) → Over l → Rest l (shape .len - 1) (shape .h) xs ms →
       Behind (l + 0) (record { first = l; last = l + length (rest ms) })
   opened {l} {xs} ms f o t =
       let n = length (rest ms) in
@@ -151,14 +152,14 @@ module _ (k : ℤ) (room h : ℕ) (X : List ℤ) where
         ahead (runs (suc l) ms) (runs (suc l) ms) (λ o. inl (omega arith)) (goes-on l n (runs (suc l) ms)) (d .cover),
       )
 
-  draw : {st : State} {l : ℕ} {xs : List ℤ} {ms : List ℕ} → PlanBy (carries k) room h st xs ms → From X l xs → Drawn l ms
+  draw : {st : State} {l : ℕ} {xs : List ℤ} {ms : List ℕ} → PlanBy (carries k) shape st xs ms → From X l xs → Drawn l ms
   unfolding rest runs windows covered count goesWith
   draw done (none e) =
       record { kept = tt; apart = tt; cover = λ j lj jn o. absurd (omega arith); total = omega arith; number = refl }
   draw (close p) f = draw p f
   draw (skip {ms = ms} g p) (more {l} hl f) =
       let d = draw p f in
-      let n = fresh k room h p in
+      let n = fresh k shape p in
       let S = runs (suc l) ms in
       record {
         kept = later (omega (arith, n)) S (d .kept);
@@ -189,10 +190,10 @@ module _ (k : ℤ) (room h : ℕ) (X : List ℤ) where
       let e = extended ms d in
       record { kept = e .0; apart = d .apart; cover = e .1; total = omega (arith, d .total); number = d .number }
 
-  drawing : {ms : List ℕ} → PlanBy (carries k) room h (out 0) X ms → Draws k (suc room) h X ms
+  drawing : {ms : List ℕ} → PlanBy (carries k) shape (out 0) X ms → Draws k (nonzero shape) X ms
   drawing {ms} p =
       let d = draw p (from X 0 (length X) (omega arith)) in
-      let n = fresh k room h p in
+      let n = fresh k shape p in
       let S = runs 0 ms in
       let B = Behind (0 + length (rest ms)) in (
         record {
@@ -211,19 +212,24 @@ module _ (k : ℤ) (room h : ℕ) (X : List ℤ) where
       by l e (inr c) = c
 
 -- with a len of 0 there is no window
-pub draws : (k : ℤ) (len h : ℕ) (X : List ℤ) (ms : List ℕ) → legal k len h X ms ≡ true → Draws k len h X ms
-draws k zero h X ms e =
-    let none = no-windows (carries k) h X ms e in
-    let one = at-any-length (carries k) h X ms 0 1 none e in
-    let (o, number, total) = drawing k 0 h X (legal→plan (carries k) 0 h X ms one) in (
-      record {
-        set = o .set;
-        cover = o .cover;
-        kept = each-of-none (Window k 0 h X) (runs 0 ms) (number ∙ none);
-        number = o .number;
-        summed = o .summed;
-      },
-      number,
-      total,
-    )
-draws k (suc room) h X ms e = drawing k room h X (legal→plan (carries k) room h X ms e)
+pub draws : (k : ℤ) (shape : Shape) (X : List ℤ) (ms : List ℕ) → legal k shape X ms ≡ true → Draws k shape X ms
+draws k shape X ms e = by (shape .len) refl
+  where
+    by : (len : ℕ) → shape .len ≡ len → Draws k shape X ms
+    by zero z =
+        let none = no-windows (carries k) X ms shape z e in
+        let one = in-any-shape (carries k) X ms shape (nonzero shape) none e in
+        let (o, number, total) = drawing k shape X (legal→plan (carries k) shape X ms one) in (
+          record {
+            set = o .set;
+            cover = o .cover;
+            kept = each-of-none (Window k shape X) (runs 0 ms) (number ∙ none);
+            number = o .number;
+            summed = o .summed;
+          },
+          number,
+          total,
+        )
+    by (suc len) z =
+        let same = nonzero-same shape (omega arith) in
+        subst (λ s. Draws k s X ms) same (drawing k shape X (legal→plan (carries k) shape X ms (rw same e)))

@@ -5,7 +5,7 @@ use mathlib.Core.List.{List, [], _∷_, map}
 use mathlib.Core.Path.{refl, sym, subst}
 use lib.IntN.{ℤ, pos}
 use lib.Signed.{ltZ-yes, _<ℤ_}
-use Rattle.rule.specs.Rule.{over, goesWith, agrees, follows, ordered, rest, drawn, count, keeps, every, legalBy, windows, covered}
+use Rattle.rule.specs.Rule.{over, goesWith, agrees, follows, ordered, rest, drawn, count, keeps, every, legalBy, shaped, windows, covered}
 use Rattle.published.proofs.Corners.{without-force, focus, weighted}
 use Rattle.published.proofs.Draws.{draws}
 use Rattle.published.proofs.Sets.{_∈_, Within, Apart, each, into, which, meet, fewer}
@@ -14,13 +14,13 @@ use Rattle.published.specs.Published.{Run, Holds, size, load, Focus, Wei
 
 table-1 : WeightedFocus (map pos (1 ∷ 1 ∷ 1 ∷ 1 ∷ 0 ∷ 1 ∷ 1 ∷ 1 ∷ [])) 2 5 (pos 0) 7 (run 0 3 ∷ run 5 7 ∷ [])
 unfolding over goesWith agrees follows ordered rest drawn count keeps every legalBy windows covered runs
-table-1 = weighted _ _ _ _ _ _ .1 (draws (pos 0) 5 0 _ (1 ∷ 2 ∷ 2 ∷ 2 ∷ 0 ∷ 1 ∷ 2 ∷ 2 ∷ []) refl .0)
+table-1 = weighted _ _ _ _ _ _ .1 (draws (pos 0) (shaped 5 0) _ (1 ∷ 2 ∷ 2 ∷ 2 ∷ 0 ∷ 1 ∷ 2 ∷ 2 ∷ []) refl .0)
 
 satisfied : Focus X 2 6 (pos 0) (run 0 2 ∷ run 4 4 ∷ [])
 unfolding over goesWith agrees follows ordered rest drawn count keeps every legalBy windows covered runs
 satisfied =
-    let o = draws (pos 0) 6 0 X (1 ∷ 2 ∷ 2 ∷ 0 ∷ 1 ∷ 0 ∷ []) refl .0 in
-    focus _ _ _ _ _ .1 (without-force _ _ _ _ _ _ _ o)
+    let o = draws (pos 0) (shaped 6 0) X (1 ∷ 2 ∷ 2 ∷ 0 ∷ 1 ∷ 0 ∷ []) refl .0 in
+    focus _ _ _ _ _ .1 (without-force _ _ _ _ _ _ o)
 
 -- no two of x0, x2 and x4 are in one sequence of at most 2
 violated : (S : List Run) → Focus X 2 2 (pos 0) S → ⊥

@@ -17,14 +17,14 @@ use Rattle.published.specs.Published.{Run, Obeys, runs, Theorems}
 
 -- some windows, within the maximums of the settings
 abbrev Windows : Settings → List ℤ → Type 0
-Windows s X = (S : List Run) × Obeys (s .k) (s .len) (s .h) (s .windows .most) (s .covered .most) X S
+Windows s X = (S : List Run) × Obeys (s .k) (s .shape) (s .windows .most) (s .covered .most) X S
 
 exist : (s : Settings) (X : List ℤ) → Windows s X ↔ ((ms : List ℕ) × (allowed s X ms ≡ true))
 exist s X = (to, from)
   where
     to : Windows s X → (ms : List ℕ) × (allowed s X ms ≡ true)
     to (S, o) =
-        let (ms, e, into, onto, number, summed) = drawn (s .k) (s .len) (s .h) _ _ X S o in
+        let (ms, e, into, onto, number, summed) = drawn (s .k) (s .shape) _ _ X S o in
         let a : Allowed s X ms = record {
           in-rule = e;
           windows-fit = omega (arith, number, o .number);
@@ -35,8 +35,8 @@ exist s X = (to, from)
     from : (ms : List ℕ) × (allowed s X ms ≡ true) → Windows s X
     from (ms, e) =
         let a : Allowed s X ms = allowing .0 e in
-        let (o, number, summed) = draws (s .k) (s .len) (s .h) X ms (a .in-rule) in
-        (runs 0 ms, recount X _ _ _ _ _ _ o (omega (arith, number, a .windows-fit)) (omega (arith, summed, a .covered-fit)))
+        let (o, number, summed) = draws (s .k) (s .shape) X ms (a .in-rule) in
+        (runs 0 ms, recount X _ _ _ _ _ o (omega (arith, number, a .windows-fit)) (omega (arith, summed, a .covered-fit)))
 
 pub theorems : Theorems
 theorems =

@@ -12,24 +12,25 @@ use lib.ListN.{length, take}
 use lib.Signed.{_<ℤ_, _≤ℤ_, clashℤ}
 use Rattle.facts.proofs.Integers.{side}
 use Rattle.rule.proofs.Loads.{carry-over, carry-under}
-use Rattle.rule.proofs.NoWindows.{at-any-length}
-use Rattle.rule.proofs.Plan.{out, on, PlanBy, done, skip, opens, close, more as longer, bridges as bridged, plan→legal}
-use Rattle.rule.specs.Rule.{goesWith, rest, carries, legal, windows, covered}
+use Rattle.rule.proofs.NoWindows.{in-any-shape}
+use Rattle.rule.proofs.Plan.{out, on, PlanBy, done, skip, opens, close, more as longer, bridges as bridged, plan→legal, nonzero-same}
+use Rattle.rule.specs.Rule.{goesWith, rest, carries, legal, nonzero, windows, covered}
+use Rattle.rule.specs.declared.Shape.{Shape}
 use Rattle.published.proofs.Draws.{fresh, draws}
 use Rattle.published.proofs.Sets.{Within, _∈_, each, all, some, which, into, meet, sets}
 use Rattle.published.proofs.Slots.{From, none, more, from, from-drop, unders-over, unders-under}
 use Rattle.published.specs.Published.{Run, Holds, size, Some, sum, _⊆_, load, unders, Window, Obeys, runs}
 
 -- legal marks that draw S
-abbrev DrawnBy : (k : ℤ) (len h : ℕ) (X : List ℤ) (S : List Run) → Type 0
-DrawnBy k len h X S =
-    (ms : List ℕ) × (legal k len h X ms ≡ true)
+abbrev DrawnBy : (k : ℤ) (shape : Shape) (X : List ℤ) (S : List Run) → Type 0
+DrawnBy k shape X S =
+    (ms : List ℕ) × (legal k shape X ms ≡ true)
     × (runs 0 ms ⊆ S) × (S ⊆ runs 0 ms) × (windows ms ≡ length S) × (covered ms ≡ sum size S)
 
 run-is : (s : Run) {a : ℕ} (b : ℕ) → s .first ≡ a → s .last ≡ b → s ≡ record { first = a; last = b }
 run-is s b e f = ap₂ (λ a b. record { first = a; last = b }) e f
 
-module _ (k : ℤ) (room h yc zc : ℕ) (X : List ℤ) (S : List Run) (rule : Obeys k (suc room) h yc zc X S) where
+module _ (k : ℤ) (shape : Shape) (yc zc : ℕ) (X : List ℤ) (S : List Run) (rule : Obeys k (nonzero shape) yc zc X S) where
   -- no window goes on from before slot l
   abbrev Free : ℕ → Type 0
   Free l = (s : Run) → s ∈ S → s .first < l → s .last < l
@@ -37,13 +38,13 @@ module _ (k : ℤ) (room h yc zc : ℕ) (X : List ℤ) (S : List Run) (rule : Ob
   -- marks from slot l on, outside a window
   record Outside (l : ℕ) (xs : List ℤ) : Type 0 where
     marks : List ℕ
-    plan : PlanBy (carries k) room h (out 0) xs marks
+    plan : PlanBy (carries k) shape (out 0) xs marks
     members : (t : Run) → t ∈ runs l marks → t ∈ S
 
   -- marks from slot l on, with n slots left of the window under way
   record Inside (c : Bool) (l n r b : ℕ) (xs : List ℤ) : Type 0 where
     marks : List ℕ
-    plan : PlanBy (carries k) room h (on c r b) xs marks
+    plan : PlanBy (carries k) shape (on c r b) xs marks
     left : length (rest marks) ≡ n
     members : (t : Run) → t ∈ runs l marks → t ∈ S
 
@@ -64,8 +65,8 @@ module _ (k : ℤ) (room h yc zc : ℕ) (X : List ℤ) (S : List Run) (rule : Ob
   within : {s : Run} → s ∈ S → Within (length X) s
   within m = each (Within (length X)) (rule .set .0) m
 
-  window : {s : Run} → s ∈ S → Window k (suc room) h X s
-  window m = each (Window k (suc room) h X) (rule .kept) m
+  window : {s : Run} → s ∈ S → Window k (nonzero shape) X s
+  window m = each (Window k (nonzero shape) X) (rule .kept) m
 
   -- behind the last slot of a window
   free-behind : {s : Run} {l : ℕ} → s ∈ S → l ≡ s .last → Free (suc l)
@@ -91,7 +92,7 @@ module _ (k : ℤ) (room h yc zc : ℕ) (X : List ℤ) (S : List Run) (rule : Ob
       by (inr q) = absurd (omega (arith, free s m q))
 
   -- a window behind its first slot
-  begin : {l : ℕ} {s : Run} {xs : List ℤ} → From X l (load X l ∷ xs) → s ∈ S → s .first ≡ l → Way s (suc l) (s .last - l) room h xs
+  begin : {l : ℕ} {s : Run} {xs : List ℤ} → From X l (load X l ∷ xs) → s ∈ S → s .first ≡ l → Way s (suc l) (s .last - l) (shape .len - 1) (shape .h) xs
   begin {l} {s} {xs} f m first =
       let n = s .last - l in
       let e : suc (s .last) - s .first ≡ suc n = omega (arith, within m) in
@@ -108,7 +109,7 @@ module _ (k : ℤ) (room h yc zc : ℕ) (X : List ℤ) (S : List Run) (rule : Ob
       Inside true (suc l) n r b xs
   after o i s zero r b y =
       let t = o (free-behind (y .member) (omega (arith, y .last))) in
-      record { marks = t .marks; plan = close (t .plan); left = fresh k room h (t .plan); members = t .members }
+      record { marks = t .marks; plan = close (t .plan); left = fresh k shape (t .plan); members = t .members }
   after o i s (suc n) zero b y = absurd (omega (arith, y .slots))
   after o i s (suc n) (suc r) b y = i true s n r b y
 
@@ -117,7 +118,7 @@ module _ (k : ℤ) (room h yc zc : ℕ) (X : List ℤ) (S : List Run) (rule : Ob
     here = load X l ∷ xs
 
     -- an over slot opens the window that covers it
-    opened : {n : ℕ} (s : Run) → s ∈ S → s .first ≡ l → l + n ≡ s .last → Inside true (suc l) n room h xs → Outside l here
+    opened : {n : ℕ} (s : Run) → s ∈ S → s .first ≡ l → l + n ≡ s .last → Inside true (suc l) n (shape .len - 1) (shape .h) xs → Outside l here
     unfolding runs goesWith
     opened s m first last t =
         let same = run-is s (l + length (rest (t .marks))) first (omega (arith, t .left)) in
@@ -197,7 +198,7 @@ module _ (k : ℤ) (room h yc zc : ℕ) (X : List ℤ) (S : List Run) (rule : Ob
   found = walk (from X 0 (length X) (omega arith)) .0 (λ s m q. absurd (omega arith))
 
   -- members that obey the rule are all there are: each window begins with an over slot, which one of them covers
-  whole : {yc′ zc′ : ℕ} (R : List Run) → Obeys k (suc room) h yc′ zc′ X R → ((s : Run) → s ∈ R → s ∈ S) → (R ⊆ S) × (S ⊆ R)
+  whole : {yc′ zc′ : ℕ} (R : List Run) → Obeys k (nonzero shape) yc′ zc′ X R → ((s : Run) → s ∈ R → s ∈ S) → (R ⊆ S) × (S ⊆ R)
   whole R obeys members = (
     all (λ s. Some (λ t. t ≡ s) S) R (λ s m. some (λ t. t ≡ s) (members s m) refl),
     all (λ s. Some (λ t. t ≡ s) R) S λ s m.
@@ -205,26 +206,31 @@ module _ (k : ℤ) (room h yc zc : ℕ) (X : List ℤ) (S : List Run) (rule : Ob
         some (λ t. t ≡ s) tm (meet (s .first) (rule .set .1) (members t tm) m hold (omega arith, omega (arith, within m))),
   )
 
-  all-drawn : DrawnBy k (suc room) h X S
+  all-drawn : DrawnBy k (nonzero shape) X S
   all-drawn =
       let ms = found .marks in
-      let e = plan→legal (carries k) room h X ms (found .plan) in
-      let (obeys, number, total) = draws k (suc room) h X ms e in
+      let e = plan→legal (carries k) shape X ms (found .plan) in
+      let (obeys, number, total) = draws k (nonzero shape) X ms e in
       let (to, fro) = whole (runs 0 ms) obeys (found .members) in
       let (lengths, sums) = sets (length X) (runs 0 ms) S (obeys .set) (rule .set) to fro in
       (ms, e, to, fro, sym number ∙ lengths, sym total ∙ sums)
 
 -- with a len of 0 there is no window, as each has a slot
-pub drawn : (k : ℤ) (len h yc zc : ℕ) (X : List ℤ) (S : List Run) → Obeys k len h yc zc X S → DrawnBy k len h X S
-drawn k zero h yc zc X [] rule =
-    let one : Obeys k 1 h yc zc X [] = record {
-      set = rule .set;
-      cover = rule .cover;
-      kept = tt;
-      number = rule .number;
-      summed = rule .summed;
-    } in
-    let (ms, e, to, fro, number, total) = all-drawn k 0 h yc zc X [] one in
-    (ms, at-any-length (carries k) h X ms 1 0 number e, to, fro, number, total)
-drawn k zero h yc zc X (s ∷ S) rule = absurd (omega (arith, rule .kept .0 .slots, rule .set .0 .0))
-drawn k (suc room) h yc zc X S rule = all-drawn k room h yc zc X S rule
+pub drawn : (k : ℤ) (shape : Shape) (yc zc : ℕ) (X : List ℤ) (S : List Run) → Obeys k shape yc zc X S → DrawnBy k shape X S
+drawn k shape yc zc X S rule = by (shape .len) refl S rule
+  where
+    by : (len : ℕ) → shape .len ≡ len → (S : List Run) → Obeys k shape yc zc X S → DrawnBy k shape X S
+    by zero z [] rule =
+        let one : Obeys k (nonzero shape) yc zc X [] = record {
+          set = rule .set;
+          cover = rule .cover;
+          kept = tt;
+          number = rule .number;
+          summed = rule .summed;
+        } in
+        let (ms, e, to, fro, number, total) = all-drawn k shape yc zc X [] one in
+        (ms, in-any-shape (carries k) X ms (nonzero shape) shape number e, to, fro, number, total)
+    by zero z (s ∷ S) rule = absurd (omega (arith, z, rule .kept .0 .slots, rule .set .0 .0))
+    by (suc len) z S rule =
+        let same = nonzero-same shape (omega arith) in
+        subst (λ s. DrawnBy k s X S) same (all-drawn k shape yc zc X S (rw same rule))

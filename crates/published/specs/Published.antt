@@ -10,8 +10,10 @@ use lib.IntN.{ℤ, pos}
 use lib.ListN.{length, getD, take, drop}
 use lib.Signed.{_<ℤ_, leZ}
 use Rattle.judge.specs.Judgment.{allowed}
-use Rattle.rule.specs.Ranges.{Range, Proper, LegalFor, classOf, allows}
-use Rattle.rule.specs.Rule.{rest, legal, legalBy, windows, covered}
+use Rattle.rule.specs.Ranges.{Proper, LegalFor, classOf, allows}
+use Rattle.rule.specs.Rule.{rest, legal, legalBy, shaped, windows, covered}
+use Rattle.rule.specs.declared.Range.{Range}
+use Rattle.rule.specs.declared.Shape.{Shape}
 use Rattle.settings.specs.declared.Settings.{Settings}
 
 -- a sequence of indices, s = [i, i + 1, .., j]
@@ -103,18 +105,18 @@ pub record WeightedSpringyFocus (X : List ℤ) (yc len h : ℕ) (k : ℤ) (zc : 
 
 -- The rule on windows (document 01, "The rule, by source"). A window begins and ends with an over slot, has at most len slots,
 -- and holds at most h under slots.
-pub record Window (k : ℤ) (len h : ℕ) (X : List ℤ) (s : Run) : Type 0 where
+pub record Window (k : ℤ) (shape : Shape) (X : List ℤ) (s : Run) : Type 0 where
   pub begins : k <ℤ load X (s .first)
   pub ends : k <ℤ load X (s .last)
-  pub slots : size s ≤ len
-  pub spare : bridges k X s ≤ h
+  pub slots : size s ≤ shape .len
+  pub spare : bridges k X s ≤ shape .h
 
 -- A window is a run of consecutive slots; windows share no slot and may touch; every over slot lies in a window; the number of
 -- windows is at most the window count, their summed length, bridges included, at most the covered count.
-pub record Obeys (k : ℤ) (len h mostWindows mostCovered : ℕ) (X : List ℤ) (S : List Run) : Type 0 where
+pub record Obeys (k : ℤ) (shape : Shape) (mostWindows mostCovered : ℕ) (X : List ℤ) (S : List Run) : Type 0 where
   pub set : Sequences (length X) S
   pub cover : (l : ℕ) → l < length X → k <ℤ load X l → Some (Holds l) S
-  pub kept : Each (Window k len h X) S
+  pub kept : Each (Window k shape X) S
   pub number : length S ≤ mostWindows
   pub summed : sum size S ≤ mostCovered
 
@@ -125,26 +127,26 @@ runs l (m ∷ ms) = cond (eqb m 1) (record { first = l; last = l + length (rest 
 
 -- The four definitions are corners of the rule. No side condition is needed: every k is taken, h = 0 with len = 1 too.
 pub record Corners (X : List ℤ) (yc len h : ℕ) (k : ℤ) (zc : ℕ) (S : List Run) : Type 0 where
-  pub focus : Focus X yc len k S ↔ Obeys k len 0 yc (length X) X S
-  pub springy : SpringyFocus X yc len h k S ↔ Obeys k len h yc (length X) X S
-  pub weighted : WeightedFocus X yc len k zc S ↔ Obeys k len 0 yc zc X S
-  pub weightedSpringy : WeightedSpringyFocus X yc len h k zc S ↔ Obeys k len h yc zc X S
+  pub focus : Focus X yc len k S ↔ Obeys k (shaped len 0) yc (length X) X S
+  pub springy : SpringyFocus X yc len h k S ↔ Obeys k (shaped len h) yc (length X) X S
+  pub weighted : WeightedFocus X yc len k zc S ↔ Obeys k (shaped len 0) yc zc X S
+  pub weightedSpringy : WeightedSpringyFocus X yc len h k zc S ↔ Obeys k (shaped len h) yc zc X S
 
 -- What is proved (proofs/Theorems.antt), with none of the side conditions: a len of 0 leaves no window.
 pub record Theorems : Type 0 where
   pub corners : (X : List ℤ) (yc len h : ℕ) (k : ℤ) (zc : ℕ) (S : List Run) → Corners X yc len h k zc S
   -- legal marks draw windows that obey the rule, as many as there are marks 1, with as many slots as marks other than 0
-  pub draws : (k : ℤ) (len h : ℕ) (X : List ℤ) (ms : List ℕ) → legal k len h X ms ≡ true →
-      Obeys k len h (windows ms) (covered ms) X (runs 0 ms)
+  pub draws : (k : ℤ) (shape : Shape) (X : List ℤ) (ms : List ℕ) → legal k shape X ms ≡ true →
+      Obeys k shape (windows ms) (covered ms) X (runs 0 ms)
       × (length (runs 0 ms) ≡ windows ms) × (sum size (runs 0 ms) ≡ covered ms)
   -- windows that obey the rule are drawn by legal marks, with no other window and no other count
-  pub drawn : (k : ℤ) (len h w c : ℕ) (X : List ℤ) (S : List Run) → Obeys k len h w c X S →
-      (ms : List ℕ) × (legal k len h X ms ≡ true)
+  pub drawn : (k : ℤ) (shape : Shape) (w c : ℕ) (X : List ℤ) (S : List Run) → Obeys k shape w c X S →
+      (ms : List ℕ) × (legal k shape X ms ≡ true)
       × (runs 0 ms ⊆ S) × (S ⊆ runs 0 ms) × (windows ms ≡ length S) × (covered ms ≡ sum size S)
   -- windows within the maximums exist exactly where the judge says yes to some marks, if it refuses nothing
   pub exist : (s : Settings) (X : List ℤ) →
-      ((S : List Run) × Obeys (s .k) (s .len) (s .h) (s .windows .most) (s .covered .most) X S)
+      ((S : List Run) × Obeys (s .k) (s .shape) (s .windows .most) (s .covered .most) X S)
       ↔ ((ms : List ℕ) × (allowed s X ms ≡ true))
   -- marks are legal for ranges exactly when they are legal for what each slot can be: under, over or both
-  pub classes : (k : ℤ) (len h : ℕ) (ranges : List Range) (ms : List ℕ) → Proper ranges →
-      LegalFor k len h ranges ms ↔ (legalBy allows len h (map (classOf k) ranges) ms ≡ true)
+  pub classes : (k : ℤ) (shape : Shape) (ranges : List Range) (ms : List ℕ) → Proper ranges →
+      LegalFor k shape ranges ms ↔ (legalBy allows shape (map (classOf k) ranges) ms ≡ true)

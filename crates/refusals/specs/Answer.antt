@@ -1,11 +1,18 @@
--- A refusal by its number, or what was asked.
-use Prim.Native.Nat.{ℕ}
+-- A refusal, with what it carries, or what was asked.
 use mathlib.Core.Option.{Option, none, some}
+use Rattle.refusals.specs.declared.Refusal.{Refusal}
+use Rattle.refusals.specs.declared.Checked.{Checked}
+use Rattle.refusals.specs.declared.Checked.the-variants.{Passed, Refused}
 
 pub data Answer (A : Type 0) : Type 0 where
-  refuses : (number : ℕ) → Answer A
+  refuses : Refusal → Answer A
   gives : A → Answer A
 
-abbrev pub answer : {A : Type 0} → Option ℕ → A → Answer A
-answer (some number) asked = refuses number
+abbrev pub answer : {A : Type 0} → Option Refusal → A → Answer A
+answer (some r) asked = refuses r
 answer none asked = gives asked
+
+-- what a check found
+abbrev pub checked : Checked → Option Refusal
+checked Passed = none
+checked (Refused r) = some r

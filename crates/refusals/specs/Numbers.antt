@@ -1,31 +1,45 @@
--- Document 01's number of each refusal ("Where each refusal is checked").
+-- Document 01's number of each refusal ("Where each refusal is checked"), and the slot that 31 carries.
 use Prim.Native.Nat.{ℕ}
-use Rattle.refusals.specs.declared.FileRefusal.{FileRefusal}
-use Rattle.refusals.specs.declared.FileRefusal.the-variants.{Size, End, Form, Slots, Distance, Records, Lent, Slot}
-use Rattle.refusals.specs.declared.SettingsRefusal.{SettingsRefusal}
-use Rattle.refusals.specs.declared.SettingsRefusal.the-variants.{FirstLength, OtherLength, WindowLength}
-use Rattle.refusals.specs.declared.SettingsRefusal.the-variants.{Bridges, WindowCounts, CoveredCounts}
-use Rattle.refusals.specs.declared.StepRefusal.{StepRefusal}
-use Rattle.refusals.specs.declared.StepRefusal.the-variants.{Unreached, Full}
+use Rattle.refusals.specs.declared.Refusal.{Refusal}
+use Rattle.refusals.specs.declared.Refusal.the-variants.{Size, End, Form, Slots, Distance, Records, Lent, Slot}
+use Rattle.refusals.specs.declared.Refusal.the-variants.{FirstLength, OtherLength, WindowLength, Bridges}
+use Rattle.refusals.specs.declared.Refusal.the-variants.{WindowCounts, CoveredCounts, Crossed, Unreached, Full}
 
-abbrev pub fileNumber : FileRefusal → ℕ
-fileNumber Size = 11
-fileNumber End = 12
-fileNumber Form = 13
-fileNumber Slots = 14
-fileNumber Distance = 15
-fileNumber Records = 16
-fileNumber Lent = 17
-fileNumber Slot = 19
+abbrev pub number : Refusal → ℕ
+number Size = 11
+number End = 12
+number Form = 13
+number Slots = 14
+number Distance = 15
+number Records = 16
+number Lent = 17
+number Slot = 19
+number FirstLength = 21
+number OtherLength = 22
+number WindowLength = 23
+number Bridges = 24
+number WindowCounts = 25
+number CoveredCounts = 26
+number (Crossed i) = 31
+number Unreached = 32
+number Full = 33
 
-abbrev pub settingsNumber : SettingsRefusal → ℕ
-settingsNumber FirstLength = 21
-settingsNumber OtherLength = 22
-settingsNumber WindowLength = 23
-settingsNumber Bridges = 24
-settingsNumber WindowCounts = 25
-settingsNumber CoveredCounts = 26
-
-abbrev pub stepNumber : StepRefusal → ℕ
-stepNumber Unreached = 32
-stepNumber Full = 33
+-- 0 where a refusal carries none
+abbrev pub slot : Refusal → ℕ
+slot Size = 0
+slot End = 0
+slot Form = 0
+slot Slots = 0
+slot Distance = 0
+slot Records = 0
+slot Lent = 0
+slot Slot = 0
+slot FirstLength = 0
+slot OtherLength = 0
+slot WindowLength = 0
+slot Bridges = 0
+slot WindowCounts = 0
+slot CoveredCounts = 0
+slot (Crossed i) = i
+slot Unreached = 0
+slot Full = 0

@@ -1,14 +1,16 @@
 -- Which refusal is given, for a table of them (document 01, "Where each refusal is checked").
-use Prim.Native.Nat.{ℕ}
 use mathlib.Core.Bool.{Bool, cond}
 use mathlib.Core.List.{List, [], _∷_}
 use mathlib.Core.Option.{Option, none, some}
+use Rattle.refusals.specs.declared.Refusal.{Refusal}
 
--- a row of the table: a number, and whether it applies
-pub data Row : Type 0 where
-  row : (number : ℕ) (applies : Bool) → Row
+-- a row of the table: a refusal where its test applies
+unfoldable pub row : Refusal → (applies : Bool) → Option Refusal
+row r applies = cond applies (some r) none
 
--- places are met from top to bottom, numbers within a place in rising order; the first that applies is given
-unfoldable pub first : List Row → Option ℕ
+-- Places are met from top to bottom, numbers within a place in rising order; the first that applies is given. Rows that are met
+-- together, as a place's, may stand as one.
+unfoldable pub first : List (Option Refusal) → Option Refusal
 first [] = none
-first (row number applies ∷ rows) = cond applies (some number) (first rows)
+first (some r ∷ rows) = some r
+first (none ∷ rows) = first rows

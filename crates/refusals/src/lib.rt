@@ -1,10 +1,10 @@
-// Why something is refused, by where it is met. Document 01's numbers are specs/Numbers.antt. Refusal 31 has a slot, and is a case of
-// the answers that can carry it.
+// Why something is refused. Document 01's numbers are specs/Numbers.antt.
 ghost use mathlib.Core.Path.{_≡_};
-ghost use Rattle.refusals.specs.Numbers.{fileNumber, settingsNumber, stepNumber};
+ghost use Rattle.refusals.specs.Numbers.{number as Numbers·number, slot as Numbers·slot};
 
-// A file on the card: 11 to 17, then 19, in this order.
-pub enum FileRefusal {
+// Every refusal, by where it is met: a file on the card (11 to 17, then 19), lengths and settings (21 to 26), slots (31, with the
+// first whose lowest load is above its highest), a step of the watch (32, then 33).
+pub enum Refusal {
     Size,
     End,
     Form,
@@ -13,63 +13,55 @@ pub enum FileRefusal {
     Records,
     Lent,
     Slot,
-}
-
-// Lengths and settings: 21 to 26, in this order.
-pub enum SettingsRefusal {
     FirstLength,
     OtherLength,
     WindowLength,
     Bridges,
     WindowCounts,
     CoveredCounts,
-}
-
-// A step of the watch: 32, then 33.
-pub enum StepRefusal {
+    Crossed(usize),
     Unreached,
     Full,
 }
 
-impl FileRefusal {
-    pub fn number(self) -> u16
-        ensures { λ r. ⌜ r ≡ fileNumber self ⌝ }
-    {
-        match self {
-            FileRefusal::Size => 11,
-            FileRefusal::End => 12,
-            FileRefusal::Form => 13,
-            FileRefusal::Slots => 14,
-            FileRefusal::Distance => 15,
-            FileRefusal::Records => 16,
-            FileRefusal::Lent => 17,
-            FileRefusal::Slot => 19,
-        }
-    }
+// What a check gives: all passed, or the first refusal that applies.
+pub enum Checked {
+    Passed,
+    Refused(Refusal),
 }
 
-impl SettingsRefusal {
+impl Refusal {
     pub fn number(self) -> u16
-        ensures { λ r. ⌜ r ≡ settingsNumber self ⌝ }
+        ensures { λ r. ⌜ r ≡ Numbers·number self ⌝ }
     {
         match self {
-            SettingsRefusal::FirstLength => 21,
-            SettingsRefusal::OtherLength => 22,
-            SettingsRefusal::WindowLength => 23,
-            SettingsRefusal::Bridges => 24,
-            SettingsRefusal::WindowCounts => 25,
-            SettingsRefusal::CoveredCounts => 26,
+            Refusal::Size => 11,
+            Refusal::End => 12,
+            Refusal::Form => 13,
+            Refusal::Slots => 14,
+            Refusal::Distance => 15,
+            Refusal::Records => 16,
+            Refusal::Lent => 17,
+            Refusal::Slot => 19,
+            Refusal::FirstLength => 21,
+            Refusal::OtherLength => 22,
+            Refusal::WindowLength => 23,
+            Refusal::Bridges => 24,
+            Refusal::WindowCounts => 25,
+            Refusal::CoveredCounts => 26,
+            Refusal::Crossed(_) => 31,
+            Refusal::Unreached => 32,
+            Refusal::Full => 33,
         }
     }
-}
 
-impl StepRefusal {
-    pub fn number(self) -> u16
-        ensures { λ r. ⌜ r ≡ stepNumber self ⌝ }
+    // The slot that a refusal carries, 0 where it carries none.
+    pub fn slot(self) -> usize
+        ensures { λ r. ⌜ r ≡ Numbers·slot self ⌝ }
     {
-        match self {
-            StepRefusal::Unreached => 32,
-            StepRefusal::Full => 33,
+        if let Refusal::Crossed(slot) = self {
+            return slot;
         }
+        0
     }
 }

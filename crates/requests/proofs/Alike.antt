@@ -9,25 +9,27 @@ use lib.IntN.{ℤ, pos}
 use lib.Seq.{ext-getD}
 use lib.Signed.{_≤ℤ_, ≤ℤ-refl}
 use Rattle.facts.proofs.Integers.{≤ℤ-trans, ≤ℤ-antisym}
+use Rattle.refusals.specs.Answer.{Answer, refuses, gives}
 use Rattle.rule.proofs.Leasts.{no-higher}
 use Rattle.settings.proofs.Passing.{same-range}
 use Rattle.settings.specs.declared.CountRange.{CountRange}
 use Rattle.requests.proofs.Choices.{in-slots}
-use Rattle.requests.specs.Promise.{Answer, refuses, no-plan, planned, Outcome, Held, Unaltered, Raised, Planned, Answers, Keeps, Alike}
+use Rattle.requests.specs.Promise.{Result, no-plan, planned, Outcome, Says, Held, Unaltered, Raised, Planned, Answers, Keeps, Alike}
 use Rattle.requests.specs.Request.{Request, slots, at}
+use Rattle.requests.specs.declared.PlanCounts.{PlanCounts}
 
 -- nothing is altered in either
 unaltered : {r : Request} {o p : Outcome} → o .answer ≡ p .answer → Unaltered r o → Unaltered r p → Alike o p
 unaltered e u v = record { answer = e; lowest = u .lowest ∙ sym (v .lowest); highest = u .highest ∙ sym (v .highest) }
 
 module _ (r : Request) where
-  same-counts : (count : List ℕ → ℕ) (given w w′ : CountRange) → Raised r count given w → Raised r count given w′ → w ≡ w′
-  same-counts count given w w′ a b =
+  same-ends : (count : List ℕ → ℕ) (given w w′ : CountRange) → Raised r count given w → Raised r count given w′ → w ≡ w′
+  same-ends count given w w′ a b =
       let v : a .value ≡ b .value =
       le-antisymm (no-higher (λ ms p. p) (b .least) (a .least)) (no-higher (λ ms p. p) (a .least) (b .least)) in
       same-range w w′ (omega (arith, a .minimum, b .minimum)) (omega (arith, a .maximum, b .maximum))
 
-  module _ (o p : Outcome) (w c w′ c′ : CountRange) (a : Planned r w c o) (b : Planned r w′ c′ p) (i : ℕ) (h : i < slots r) where
+  module _ (o p : Outcome) (n m : PlanCounts) (a : Planned r n o) (b : Planned r m p) (i : ℕ) (h : i < slots r) where
     -- some load is held at each slot
     held : at (o .lowest) i ≤ℤ at (o .highest) i
     held =
@@ -44,36 +46,37 @@ module _ (r : Request) where
     higher : at (o .highest) i ≤ℤ at (p .highest) i
     higher = moves _ (held, ≤ℤ-refl _) .1
 
-  module _ (o p : Outcome) (w c w′ c′ : CountRange) (e : o .answer ≡ planned w c) (f : p .answer ≡ planned w′ c′)
-      (a : Planned r w c o) (b : Planned r w′ c′ p) where
+  module _ (o p : Outcome) (n m : PlanCounts) (e : Says o n) (f : Says p m) (a : Planned r n o) (b : Planned r m p) where
+    same-counts : n ≡ m
+    same-counts =
+        let windows = same-ends _ _ (n .windows) (m .windows) (a .windows) (b .windows) in
+        let covered = same-ends _ _ (n .covered) (m .covered) (a .covered) (b .covered) in
+        λ i. record { windows = windows i; covered = covered i }
+
     both-planned : Alike o p
     both-planned =
         record {
-          answer =
-              e
-              ∙ ap (λ w. planned w c) (same-counts _ _ w w′ (a .windows) (b .windows))
-              ∙ ap (planned w′) (same-counts _ _ c c′ (a .covered) (b .covered))
-              ∙ sym f;
+          answer = e ∙ ap (λ n. gives (planned n)) same-counts ∙ sym f;
           lowest = ext-getD (pos 0) _ _ (a .lowest-length ∙ sym (b .lowest-length))
               (λ i h.
               let h′ : i < slots r = omega (arith, h, a .lowest-length) in
-              ≤ℤ-antisym (lower p o w′ c′ w c b a i h′) (lower o p w c w′ c′ a b i h′));
+              ≤ℤ-antisym (lower p o m n b a i h′) (lower o p n m a b i h′));
           highest = ext-getD (pos 0) _ _ (a .highest-length ∙ sym (b .highest-length))
               (λ i h.
               let h′ : i < slots r = omega (arith, h, a .highest-length) in
-              ≤ℤ-antisym (higher o p w c w′ c′ a b i h′) (higher p o w′ c′ w c b a i h′));
+              ≤ℤ-antisym (higher o p n m a b i h′) (higher p o m n b a i h′));
         }
 
 pub alike : (r : Request) (o p : Outcome) → Keeps r o → Keeps r p → Alike o p
 alike r o p k l = by (o .answer) (p .answer) refl refl k l
   where
-    by : (a b : Answer) → o .answer ≡ a → p .answer ≡ b → Answers r a o → Answers r b p → Alike o p
+    by : (a b : Answer Result) → o .answer ≡ a → p .answer ≡ b → Answers r a o → Answers r b p → Alike o p
     by (refuses f) (refuses g) e d (x, u) (y, v) = unaltered (e ∙ ap refuses (Option·some-injective _ _ (sym x ∙ y)) ∙ sym d) u v
-    by (refuses f) no-plan e d (x, u) (y, n, v) = absurd (Option·some-ne-none _ (sym x ∙ y))
-    by (refuses f) (planned w c) e d (x, u) (y, q) = absurd (Option·some-ne-none _ (sym x ∙ y))
-    by no-plan (refuses g) e d (x, n, u) (y, v) = absurd (Option·some-ne-none _ (sym y ∙ x))
-    by no-plan no-plan e d (x, n, u) (y, m, v) = unaltered (e ∙ sym d) u v
-    by no-plan (planned w c) e d (x, n, u) (y, q) = let (ms, plan, _) = q .windows .least .met in absurd (n ms plan)
-    by (planned w c) (refuses g) e d (x, q) (y, v) = absurd (Option·some-ne-none _ (sym y ∙ x))
-    by (planned w c) no-plan e d (x, q) (y, n, v) = let (ms, plan, _) = q .windows .least .met in absurd (n ms plan)
-    by (planned w c) (planned w′ c′) e d (x, q) (y, s) = both-planned r o p w c w′ c′ e d q s
+    by (refuses f) (gives no-plan) e d (x, u) (y, none, v) = absurd (Option·some-ne-none _ (sym x ∙ y))
+    by (refuses f) (gives (planned n)) e d (x, u) (y, q) = absurd (Option·some-ne-none _ (sym x ∙ y))
+    by (gives no-plan) (refuses g) e d (x, none, u) (y, v) = absurd (Option·some-ne-none _ (sym y ∙ x))
+    by (gives no-plan) (gives no-plan) e d (x, none, u) (y, _, v) = unaltered (e ∙ sym d) u v
+    by (gives no-plan) (gives (planned n)) e d (x, none, u) (y, q) = let (ms, plan, _) = q .windows .least .met in absurd (none ms plan)
+    by (gives (planned n)) (refuses g) e d (x, q) (y, v) = absurd (Option·some-ne-none _ (sym y ∙ x))
+    by (gives (planned n)) (gives no-plan) e d (x, q) (y, none, v) = let (ms, plan, _) = q .windows .least .met in absurd (none ms plan)
+    by (gives (planned n)) (gives (planned m)) e d (x, q) (y, s) = both-planned r o p n m e d q s

@@ -13,11 +13,12 @@ use Rattle.requests.proofs.Requests.{formed}
 use Rattle.requests.specs.Best.{best, fewest}
 use Rattle.requests.specs.Cases.{Case, cases, Kept}
 use Rattle.requests.specs.Promise.{Outcome, Keeps}
-use Rattle.requests.specs.Request.{Request, ranges, refused, crossed, WellFormed, PlanOf}
+use Rattle.requests.specs.Request.{Request, ranges, requestRefusal, refused, crossed, WellFormed, PlanOf}
 use Rattle.requests.specs.Solution.{classes, possible, loss, outcome}
 use Rattle.rule.specs.Ranges.{classOf, allows}
-use Rattle.refusals.specs.Table.{first}
-use Rattle.settings.specs.Refusals.{wrongSlots, wrongOther, wrongLength, wrongBridges, wrongCounts, refusalBy, refusal}
+use Rattle.refusals.specs.Table.{row, first}
+use Rattle.settings.specs.Refusals.{wrongSlots, differs, wrongLength, wrongBridges, wrongCounts}
+use Rattle.settings.specs.Refusals.{lengthsRefusal, shapeRefusal, settingsRefusal, refusal}
 use Rattle.rule.specs.Rule.{over, goesWith, agrees, follows, ordered, rest, drawn, count, keeps as Rule·keeps, every, legalBy, windows, covered}
 
 -- marks that are a plan of the request, where there is one
@@ -25,7 +26,7 @@ unfoldable fitting : Request → List ℕ → Bool
 fitting r ms =
     let s = r .settings in
     not (possible s (classes r))
-    || (legalBy allows (s .len) (s .h) (classes r) ms
+    || (legalBy allows (s .shape) (classes r) ms
     && (leb (windows ms) (s .windows .most) && leb (covered ms) (s .covered .most)))
 
 fitting→plan : (r : Request) (ms : List ℕ) → fitting r ms ≡ true →
@@ -33,10 +34,10 @@ fitting→plan : (r : Request) (ms : List ℕ) → fitting r ms ≡ true →
 unfolding fitting
 fitting→plan r ms e w p =
     let s = r .settings in
-    let (in-rule, fit) = both (legalBy allows (s .len) (s .h) (classes r) ms) _ (rw p at e) in
+    let (in-rule, fit) = both (legalBy allows (s .shape) (classes r) ms) _ (rw p at e) in
     let (few, short) = both (leb (windows ms) (s .windows .most)) (leb (covered ms) (s .covered .most)) fit in
     record {
-      in-rule = by-classes (s .k) (s .len) (s .h) (ranges r) ms (formed .0 w .proper) .1 in-rule;
+      in-rule = by-classes (s .k) (s .shape) (ranges r) ms (formed .0 w .proper) .1 in-rule;
       windows-fit = leb-true _ _ few;
       covered-fit = leb-true _ _ short;
     }
@@ -58,5 +59,5 @@ each (c ∷ cs) e =
     )
 
 pub all-kept : Kept cases
-unfolding cases outcome refused crossed refusal refusalBy first wrongSlots wrongOther wrongLength wrongBridges wrongCounts possible loss fewest best classOf allows over goesWith fitting legalBy agrees follows ordered rest drawn count every windows covered Rule·keeps
+unfolding cases outcome refused requestRefusal crossed refusal lengthsRefusal shapeRefusal settingsRefusal first row wrongSlots differs wrongLength wrongBridges wrongCounts possible loss fewest best classOf allows over goesWith fitting legalBy agrees follows ordered rest drawn count every windows covered Rule·keeps
 all-kept = each cases refl

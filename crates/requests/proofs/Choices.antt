@@ -8,7 +8,8 @@ use lib.ListN.{length, set}
 use lib.Signed.{_≤ℤ_, ≤ℤ-refl}
 use Rattle.facts.proofs.Integers.{≤ℤ-trans, ≤ℤ-antisym}
 use Rattle.facts.proofs.Rules.{map-set}
-use Rattle.rule.specs.Ranges.{Range, range, Proper, ChosenIn, Class, classOf}
+use Rattle.rule.specs.Ranges.{range, Proper, ChosenIn, Class, classOf}
+use Rattle.rule.specs.declared.Range.{Range}
 use Rattle.requests.specs.Request.{paired, at}
 
 pub paired-length : (los his : List ℤ) → length los ≡ length his → length (paired los his) ≡ length los

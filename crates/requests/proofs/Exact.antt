@@ -1,5 +1,5 @@
 -- What `best` is: every plan with at most w windows covers at least so many slots, and below T some plan meets it.
-use Prim.Native.Nat.{ℕ, zero, suc, _≤_, _<_, min}
+use Prim.Native.Nat.{ℕ, zero, suc, _-_, _≤_, _<_, min}
 use native.Mathlib.Nat.{le-refl, le-suc, le-trans}
 use native.Mathlib.Omega.{arith, min-cases}
 use mathlib.Core.Bool.{Bool, true, false, cond, false≢true}
@@ -9,13 +9,14 @@ use Rattle.facts.proofs.Rules.{at-most}
 use Rattle.rule.proofs.Plan.{State, out, on, PlanBy, done, skip, opens, close, more, bridges, legal→plan, plan→legal}
 use Rattle.rule.specs.Ranges.{Class, under-only, over-only, either, allows}
 use Rattle.rule.specs.Rule.{goesWith, count, windows, covered}
+use Rattle.rule.specs.declared.Shape.{Shape}
 use Rattle.requests.specs.Best.{Fits, spend, dearer, best, onward, after}
 
-module _ (room h : ℕ) where
+module _ (shape : Shape) where
   -- some plan with at most w windows covers at most c slots
   pub record Found (st : State) (cs : List Class) (w c : ℕ) : Type 0 where
     pub marks : List ℕ
-    pub plan : PlanBy allows room h st cs marks
+    pub plan : PlanBy allows shape st cs marks
     pub few : windows marks ≤ w
     pub short : covered marks ≤ c
 
@@ -51,48 +52,48 @@ module _ (T : ℕ) where
   split-le true e f = e
   split-le false e f = f
 
-module _ (T room h : ℕ) where
+module _ (T : ℕ) (shape : Shape) where
   -- more windows and more room never cost more
   more-room : (cs : List Class) {r b w r′ b′ w′ : ℕ} → r ≤ r′ → b ≤ b′ → w ≤ w′ →
-      (best T room h cs w′ ≤ best T room h cs w) × (onward T room h cs r′ b′ w′ ≤ onward T room h cs r b w)
+      (best T shape cs w′ ≤ best T shape cs w) × (onward T shape cs r′ b′ w′ ≤ onward T shape cs r b w)
   unfolding best onward
   more-room [] p q s = (le-refl _, le-refl _)
   more-room (c ∷ cs) p q s = (
     cond-le (allows c 0) (more-room cs (le-refl 0) (le-refl 0) s .0)
-        (dearer-le T (spend-le T s λ i j e. capped T (min-le (more-room cs (le-refl room) (le-refl h) e)))),
+        (dearer-le T (spend-le T s λ i j e. capped T (min-le (more-room cs (le-refl (shape .len - 1)) (le-refl (shape .h)) e)))),
     dearer-le T (spend-le T p λ i j e.
         split-le T (allows c 2) (capped T (min-le (more-room cs e q s))) (spend-le T q λ a b f. capped T (more-room cs e f s .1))),
   )
 
-  pub best-le : (cs : List Class) (w : ℕ) → best T room h cs w ≤ T
+  pub best-le : (cs : List Class) (w : ℕ) → best T shape cs w ≤ T
   unfolding best
   best-le [] w = omega arith
   best-le (c ∷ cs) w = at-most (allows c 0) _ _ (best-le cs w) (omega arith)
 
-  pub onward-le : (cs : List Class) (r b w : ℕ) → onward T room h cs r b w ≤ T
+  pub onward-le : (cs : List Class) (r b w : ℕ) → onward T shape cs r b w ≤ T
   unfolding onward
   onward-le [] r b w = omega arith
   onward-le (c ∷ cs) r b w = omega arith
 
   -- a window that goes on wants a slot left to it
-  pub no-room : (cs : List Class) (b w : ℕ) → onward T room h cs 0 b w ≡ T
+  pub no-room : (cs : List Class) (b w : ℕ) → onward T shape cs 0 b w ≡ T
   unfolding onward
   no-room [] b w = refl
   no-room (c ∷ cs) b w = omega arith
 
-  pub fewer : (cs : List Class) {w w′ : ℕ} → w ≤ w′ → best T room h cs w′ ≤ best T room h cs w
+  pub fewer : (cs : List Class) {w w′ : ℕ} → w ≤ w′ → best T shape cs w′ ≤ best T shape cs w
   fewer cs s = more-room cs (le-refl 0) (le-refl 0) s .0
 
   -- a slot that may be over is taken as over
-  taken : (cs : List Class) (r b w n : ℕ) (c : Class) → allows c 2 ≡ true → after T room h cs r b w ≤ n →
-      onward T room h (c ∷ cs) (suc r) b w ≤ suc n
+  taken : (cs : List Class) (r b w n : ℕ) (c : Class) → allows c 2 ≡ true → after T shape cs r b w ≤ n →
+      onward T shape (c ∷ cs) (suc r) b w ≤ suc n
   unfolding onward allows goesWith
   taken cs r b w n under-only m e = absurd (false≢true m)
   taken cs r b w n over-only m e = omega arith
   taken cs r b w n either m e = omega arith
 
   -- a window under way that is put off to its next over slot costs no more
-  put-off : (cs : List Class) {r b : ℕ} (w : ℕ) → r ≤ room → b ≤ h → best T room h cs (suc w) ≤ onward T room h cs r b w
+  put-off : (cs : List Class) {r b : ℕ} (w : ℕ) → r ≤ shape .len - 1 → b ≤ shape .h → best T shape cs (suc w) ≤ onward T shape cs r b w
   unfolding best onward allows goesWith
   put-off [] w p q = omega arith
   put-off (under-only ∷ cs) {r = zero} w p q = omega (arith, best-le cs (suc w))
@@ -109,26 +110,26 @@ module _ (T room h : ℕ) where
 
   -- the least that a plan with at most w windows covers
   abbrev pub least : State → List Class → (w : ℕ) → ℕ
-  least (out q) cs w = best T room h cs w
-  least (on true r b) cs w = after T room h cs r b w
-  least (on false r b) cs w = onward T room h cs r b w
+  least (out q) cs w = best T shape cs w
+  least (on true r b) cs w = after T shape cs r b w
+  least (on false r b) cs w = onward T shape cs r b w
 
-  goes-on : (cs : List Class) (closes : Bool) (r b w : ℕ) → least (on closes r b) cs w ≤ onward T room h cs r b w
+  goes-on : (cs : List Class) (closes : Bool) (r b w : ℕ) → least (on closes r b) cs w ≤ onward T shape cs r b w
   goes-on cs true r b w = omega arith
   goes-on cs false r b w = le-refl _
 
   -- one slot more
   module _ (cs : List Class) (w n : ℕ) where
-    opened : (c : Class) → allows c 1 ≡ true → after T room h cs room h w ≤ n → best T room h (c ∷ cs) (suc w) ≤ suc n
+    opened : (c : Class) → allows c 1 ≡ true → after T shape cs (shape .len - 1) (shape .h) w ≤ n → best T shape (c ∷ cs) (suc w) ≤ suc n
     unfolding best allows goesWith
     opened under-only m e = absurd (false≢true m)
     opened over-only m e = omega arith
     opened either m e =
-        let later = put-off cs w (le-refl room) (le-refl h) in
+        let later = put-off cs w (le-refl (shape .len - 1)) (le-refl (shape .h)) in
         omega (arith, later, fewer cs (le-suc w))
 
-    bridged : (r b : ℕ) (c : Class) → allows c 3 ≡ true → onward T room h cs r b w ≤ n →
-        onward T room h (c ∷ cs) (suc r) (suc b) w ≤ suc n
+    bridged : (r b : ℕ) (c : Class) → allows c 3 ≡ true → onward T shape cs r b w ≤ n →
+        onward T shape (c ∷ cs) (suc r) (suc b) w ≤ suc n
     unfolding onward allows goesWith
     bridged r b under-only m e = omega arith
     bridged r b over-only m e = absurd (false≢true m)
@@ -136,7 +137,7 @@ module _ (T room h : ℕ) where
         let spare = more-room cs (le-refl r) (le-suc b) (le-refl w) .1 in
         omega (arith, spare)
 
-  floor : {st : State} {cs : List Class} {ms : List ℕ} (w : ℕ) → PlanBy allows room h st cs ms → windows ms ≤ w →
+  floor : {st : State} {cs : List Class} {ms : List ℕ} (w : ℕ) → PlanBy allows shape st cs ms → windows ms ≤ w →
       least st cs w ≤ covered ms
   unfolding best windows covered count
   floor w done e = omega arith
@@ -150,16 +151,16 @@ module _ (T room h : ℕ) where
       le-trans (goes-on (x ∷ xs) c (suc r) (suc b) w) (bridged xs w (covered ms) r b x m (floor w p e))
 
   abbrev Outside : List Class → Type 0
-  Outside cs = (w : ℕ) → best T room h cs w < T → Found room h (out 0) cs w (best T room h cs w)
+  Outside cs = (w : ℕ) → best T shape cs w < T → Found shape (out 0) cs w (best T shape cs w)
 
   abbrev Inside : List Class → Type 0
-  Inside cs = (closes : Bool) (r b w : ℕ) → onward T room h cs r b w < T →
-      Found room h (on closes r b) cs w (onward T room h cs r b w)
+  Inside cs = (closes : Bool) (r b w : ℕ) → onward T shape cs r b w < T →
+      Found shape (on closes r b) cs w (onward T shape cs r b w)
 
   module _ (cs : List Class) (o : Outside cs) (i : Inside cs) where
-    behind : (r b w : ℕ) → after T room h cs r b w < T → Found room h (on true r b) cs w (after T room h cs r b w)
+    behind : (r b w : ℕ) → after T shape cs r b w < T → Found shape (on true r b) cs w (after T shape cs r b w)
     behind r b w e =
-        min-cases (best T room h cs w) (onward T room h cs r b w) _
+        min-cases (best T shape cs w) (onward T shape cs r b w) _
         (λ _ s.
         let f = o w (omega arith) in
         record { marks = f .marks; plan = close (f .plan); few = f .few; short = omega (arith, f .short) })
@@ -167,8 +168,8 @@ module _ (T room h : ℕ) where
         let f = i true r b w (omega arith) in
         record { marks = f .marks; plan = f .plan; few = f .few; short = omega (arith, f .short) })
 
-    skipped : (c : Class) (w : ℕ) → allows c 0 ≡ true → best T room h cs w < T →
-        Found room h (out 0) (c ∷ cs) w (best T room h cs w)
+    skipped : (c : Class) (w : ℕ) → allows c 0 ≡ true → best T shape cs w < T →
+        Found shape (out 0) (c ∷ cs) w (best T shape cs w)
     unfolding windows covered count
     skipped c w m e = let f = o w e in record { marks = 0 ∷ f .marks; plan = skip m (f .plan); few = f .few; short = f .short }
 
@@ -177,7 +178,7 @@ module _ (T room h : ℕ) where
     outside under-only w e = skipped under-only w refl e
     outside over-only zero e = absurd (omega arith)
     outside over-only (suc w) e =
-        let f = behind room h w (omega arith) in
+        let f = behind (shape .len - 1) (shape .h) w (omega arith) in
         record {
           marks = 1 ∷ f .marks;
           plan = opens refl (f .plan);
@@ -186,8 +187,8 @@ module _ (T room h : ℕ) where
         }
     outside either w e = skipped either w refl e
 
-    over-slot : (c : Class) (closes : Bool) (r b w : ℕ) → allows c 2 ≡ true → dearer T (after T room h cs r b w) < T →
-        Found room h (on closes (suc r) b) (c ∷ cs) w (dearer T (after T room h cs r b w))
+    over-slot : (c : Class) (closes : Bool) (r b w : ℕ) → allows c 2 ≡ true → dearer T (after T shape cs r b w) < T →
+        Found shape (on closes (suc r) b) (c ∷ cs) w (dearer T (after T shape cs r b w))
     unfolding windows covered count
     over-slot c closes r b w m e =
         let f = behind r b w (omega arith) in
@@ -211,10 +212,10 @@ module _ (T room h : ℕ) where
   )
   found (c ∷ cs) = let (o, i) = found cs in (outside cs o i c, inside cs o i c)
 
-  pub at-least : {cs : List Class} {w c : ℕ} {ms : List ℕ} → Fits room h cs w c ms → best T room h cs w ≤ covered ms
-  at-least {cs} {w} {ms = ms} f = floor w (legal→plan allows room h cs ms (f .in-rule)) (f .few)
+  pub at-least : {cs : List Class} {w c : ℕ} {ms : List ℕ} → Fits shape cs w c ms → best T shape cs w ≤ covered ms
+  at-least {cs} {w} {ms = ms} f = floor w (legal→plan allows shape cs ms (f .in-rule)) (f .few)
 
-  pub met : (cs : List Class) (w : ℕ) → best T room h cs w < T → (ms : List ℕ) × Fits room h cs w (best T room h cs w) ms
+  pub met : (cs : List Class) (w : ℕ) → best T shape cs w < T → (ms : List ℕ) × Fits shape cs w (best T shape cs w) ms
   met cs w e =
       let f = found cs .0 w e in
-      (f .marks, record { in-rule = plan→legal allows room h cs (f .marks) (f .plan); few = f .few; short = f .short })
+      (f .marks, record { in-rule = plan→legal allows shape cs (f .marks) (f .plan); few = f .few; short = f .short })

@@ -1,15 +1,15 @@
 -- A request's plans are the marks to which the judge says yes, for some loads in its ranges.
 use Prim.Native.Nat.{ℕ}
 use mathlib.Core.Bool.{true}
-use mathlib.Core.List.{List, [], _∷_}
+use mathlib.Core.List.{List}
 use mathlib.Core.Logic.{_↔_}
-use mathlib.Core.Path.{_≡_, sym, subst, _∙_}
-use lib.ListN.{length}
+use mathlib.Core.Path.{_≡_, sym, subst}
 use Rattle.judge.proofs.Allowing.{Allowed, allowing, saying, said}
+use Rattle.refusals.specs.Answer.{gives}
 use Rattle.judge.specs.Judgment.{says, judgment}
 use Rattle.rule.proofs.Onward.{as-long}
 use Rattle.rule.specs.Rule.{carries, windows, covered}
-use Rattle.settings.proofs.Passing.{Passing, passing, beside}
+use Rattle.settings.proofs.Passing.{Passing, passing, same}
 use Rattle.settings.specs.declared.Settings.{Settings}
 use Rattle.requests.proofs.Requests.{Formed, formed, chosen-slots}
 use Rattle.requests.specs.Promise.{YesFor}
@@ -20,13 +20,13 @@ module _ (r : Request) (good : Formed r) (ms : List ℕ) where
   s = r .settings
 
   -- with the loads that it is legal for
-  pub yes-to : (plan : PlanOf r ms) → judgment s (plan .in-rule .0) ms ≡ says true (windows ms) (covered ms)
+  pub yes-to : (plan : PlanOf r ms) → judgment s (plan .in-rule .0) ms ≡ gives (says true (windows ms) (covered ms))
   yes-to plan =
       let (xs, c, e) = plan .in-rule in
       let n = chosen-slots r good xs c in
-      let m = as-long (carries (s .k)) (s .len) (s .h) xs ms e ∙ n in
+      let m = as-long (carries (s .k)) (s .shape) xs ms e in
       saying s xs ms
-      (passing .1 (subst (λ n. Passing n (length ms ∷ []) s) (sym n) (beside (m, tt) (good .pass))))
+      (passing .1 (same _ _ .1 m, subst (λ n. Passing n s) (sym n) (good .pass)))
       (allowing .1 (record { in-rule = e; windows-fit = plan .windows-fit; covered-fit = plan .covered-fit }))
 
   to : PlanOf r ms → YesFor s (ranges r) ms

@@ -1,5 +1,5 @@
 -- The computed outcome keeps the promise.
-use Prim.Native.Nat.{ℕ, _-_, _≤_, _<_}
+use Prim.Native.Nat.{ℕ, _≤_, _<_}
 use native.Mathlib.Omega.{arith}
 use mathlib.Core.Bool.{Bool, true, false, true≢false}
 use mathlib.Core.List.{List, []}
@@ -7,6 +7,8 @@ use mathlib.Core.Option.{Option, none, some, Option·some-ne-none}
 use mathlib.Core.Path.{_≡_, refl, sym, _∙_}
 use borrow.Author.Tests.{leb-true}
 use lib.ListN.{length}
+use Rattle.refusals.specs.Answer.{refuses}
+use Rattle.refusals.specs.declared.Refusal.{Refusal}
 use Rattle.rule.proofs.Leasts.{same-least}
 use Rattle.rule.specs.Ranges.{Class}
 use Rattle.rule.specs.Rule.{LeastOver}
@@ -15,9 +17,9 @@ use Rattle.requests.proofs.Choices.{from-slots}
 use Rattle.requests.proofs.Judged.{yes-to}
 use Rattle.requests.proofs.Least.{least-windows, least-covered}
 use Rattle.requests.proofs.Narrowing.{along-length, along-at, stays, exact}
-use Rattle.requests.proofs.Requests.{Formed, formed, small, width, chosen-slots, possible→fits, fits→possible, plan→fits, fits→plan}
-use Rattle.requests.specs.Promise.{refuses, Outcome, lowestAfter, highestAfter, Narrowed, YesFor, Keeps}
-use Rattle.requests.specs.Request.{Request, slots, at, paired, Refused, refused, WellFormed, PlanOf}
+use Rattle.requests.proofs.Requests.{Formed, formed, small, chosen-slots, possible→fits, fits→possible, plan→fits, fits→plan}
+use Rattle.requests.specs.Promise.{Outcome, lowestAfter, highestAfter, Narrowed, YesFor, Keeps}
+use Rattle.requests.specs.Request.{Request, slots, at, paired, refused, WellFormed, PlanOf}
 use Rattle.requests.specs.Solution.{sentinel, classes, cheapest, sparsest, FitsAt, possible, loss}
 use Rattle.requests.specs.Solution.{found, unaltered, outcomeBy, outcome}
 
@@ -34,7 +36,7 @@ module _ (r : Request) (good : Formed r) where
 
     narrow-high : (i : ℕ) → i < slots r → at (found r ms .highest) i ≡ highestAfter (s .k) (loss s cs i) (at (r .highest) i)
     narrow-high i h =
-        along-at (λ i hi. highestAfter (s .k) (loss s cs i) hi) (r .highest) i (omega (arith, h, width r good))
+        along-at (λ i hi. highestAfter (s .k) (loss s cs i) hi) (r .highest) i (omega (arith, h, good .width))
 
     narrowed : (i : ℕ) → i < slots r → Narrowed r (found r ms) i
     narrowed i h =
@@ -46,7 +48,7 @@ module _ (r : Request) (good : Formed r) where
         }
 
     wide : length (found r ms .highest) ≡ slots r
-    wide = along-length (λ i hi. highestAfter (s .k) (loss s cs i) hi) (r .highest) ∙ width r good
+    wide = along-length (λ i hi. highestAfter (s .k) (loss s cs i) hi) (r .highest) ∙ good .width
 
     drawn : YesFor s (paired (found r ms .lowest) (found r ms .highest)) ms
     drawn =
@@ -77,13 +79,13 @@ module _ (r : Request) (good : Formed r) where
       record {
         windows = record {
           value = sparsest s cs;
-          least = by-plans (least-windows sentinel (s .len - 1) (s .h) cs _ _ (small r good) enough);
+          least = by-plans (least-windows sentinel (s .shape) cs _ _ (small r good) enough);
           minimum = refl;
           maximum = refl;
         };
         covered = record {
           value = cheapest s cs;
-          least = by-plans (least-covered sentinel (s .len - 1) (s .h) cs _ _ (small r good) enough);
+          least = by-plans (least-covered sentinel (s .shape) cs _ _ (small r good) enough);
           minimum = refl;
           maximum = refl;
         };
@@ -94,7 +96,7 @@ module _ (r : Request) (good : Formed r) where
       },
     )
 
-pub refusal-kept : (r : Request) {f : Refused} → refused r ≡ some f → Keeps r (unaltered r (refuses f))
+pub refusal-kept : (r : Request) {f : Refusal} → refused r ≡ some f → Keeps r (unaltered r (refuses f))
 refusal-kept r e = (e, record { lowest = refl; highest = refl; marks = refl })
 
 -- a plan, where there is one, makes the outcome that keeps the promise
@@ -103,7 +105,7 @@ pub keeps : (r : Request) (ms : List ℕ) → (WellFormed r → possible (r .set
 unfolding outcome
 keeps r ms plan = by (refused r) (possible (r .settings) (classes r)) refl refl
   where
-    by : (f : Option Refused) (b : Bool) → refused r ≡ f → possible (r .settings) (classes r) ≡ b → Keeps r (outcomeBy f b r ms)
+    by : (f : Option Refusal) (b : Bool) → refused r ≡ f → possible (r .settings) (classes r) ≡ b → Keeps r (outcomeBy f b r ms)
     by (some f) b p q = refusal-kept r p
     by none false p q = (
       p,
@@ -116,7 +118,7 @@ keeps r ms plan = by (refused r) (possible (r .settings) (classes r)) refl refl
 pub answered : (r : Request) → (o : Outcome) × Keeps r o
 answered r = by (refused r) (possible (r .settings) (classes r)) refl refl
   where
-    by : (f : Option Refused) (b : Bool) → refused r ≡ f → possible (r .settings) (classes r) ≡ b → (o : Outcome) × Keeps r o
+    by : (f : Option Refusal) (b : Bool) → refused r ≡ f → possible (r .settings) (classes r) ≡ b → (o : Outcome) × Keeps r o
     by (some f) b p q = (outcome r [], keeps r [] (λ w e. absurd (Option·some-ne-none _ (sym p ∙ w))))
     by none false p q = (outcome r [], keeps r [] (λ w e. absurd (true≢false (sym e ∙ q))))
     by none true p q =

@@ -1,5 +1,5 @@
 -- The two least counts of classes, and when a plan exists, from `best`.
-use Prim.Native.Nat.{ℕ, zero, suc, _+_, _-_, _≤_, _<_}
+use Prim.Native.Nat.{ℕ, zero, suc, _+_, _≤_, _<_}
 use native.Mathlib.Nat.{le-antisymm, le-refl, eq-or-lt-of-le, lt-of-not-le}
 use native.Mathlib.Omega.{arith}
 use mathlib.Core.Bool.{Bool, true, false, cond}
@@ -9,82 +9,83 @@ use mathlib.Core.Path.{_≡_, refl, sym, subst}
 use borrow.Author.Tests.{leb-true, leb-false}
 use lib.Dec.{leb}
 use Rattle.rule.specs.Ranges.{Class, allows}
-use Rattle.rule.specs.Rule.{legalBy, windows, covered, LeastOver}
+use Rattle.rule.specs.Rule.{legalBy, nonzero, windows, covered, LeastOver}
+use Rattle.rule.specs.declared.Shape.{Shape}
 use Rattle.requests.proofs.Exact.{best-le, at-least, met}
 use Rattle.requests.specs.Best.{Fits, best, fewest}
 use Rattle.requests.specs.Solution.{sentinel, LegalMarks, LeastCounts}
 use Rattle.settings.specs.declared.Settings.{Settings}
 
-module _ (T room h : ℕ) (cs : List Class) where
+module _ (T : ℕ) (shape : Shape) (cs : List Class) where
   -- v is the first of the window counts from w on with which at most c slots are covered
   record First (c w v : ℕ) : Type 0 where
-    enough : best T room h cs v ≤ c
-    first : (u : ℕ) → w ≤ u → best T room h cs u ≤ c → v ≤ u
+    enough : best T shape cs v ≤ c
+    first : (u : ℕ) → w ≤ u → best T shape cs u ≤ c → v ≤ u
 
-  fewest-first : (c w d : ℕ) → best T room h cs (w + d) ≤ c → First c w (fewest T room h cs c w d)
+  fewest-first : (c w d : ℕ) → best T shape cs (w + d) ≤ c → First c w (fewest T shape cs c w d)
   unfolding fewest
-  fewest-first c w zero e = record { enough = subst (λ v. best T room h cs v ≤ c) (omega arith) e; first = λ u p q. p }
-  fewest-first c w (suc d) e = by (leb (best T room h cs w) c) refl (fewest-first c (suc w) d)
+  fewest-first c w zero e = record { enough = subst (λ v. best T shape cs v ≤ c) (omega arith) e; first = λ u p q. p }
+  fewest-first c w (suc d) e = by (leb (best T shape cs w) c) refl (fewest-first c (suc w) d)
     where
-      by : (b : Bool) → leb (best T room h cs w) c ≡ b →
-          (best T room h cs (suc w + d) ≤ c → First c (suc w) (fewest T room h cs c (suc w) d)) →
-          First c w (cond b w (fewest T room h cs c (suc w) d))
+      by : (b : Bool) → leb (best T shape cs w) c ≡ b →
+          (best T shape cs (suc w + d) ≤ c → First c (suc w) (fewest T shape cs c (suc w) d)) →
+          First c w (cond b w (fewest T shape cs c (suc w) d))
       by true q f = record { enough = leb-true _ _ q; first = λ u p q. p }
       by false q f =
-          let s = f (subst (λ v. best T room h cs v ≤ c) (omega arith) e) in
-          let dear : c < best T room h cs w = leb-false _ _ q in
+          let s = f (subst (λ v. best T shape cs v ≤ c) (omega arith) e) in
+          let dear : c < best T shape cs w = leb-false _ _ q in
           record {
             enough = s .enough;
             first = λ u p r.
-                ⊎-elim (λ i. absurd (omega (arith, dear, subst (λ v. best T room h cs v ≤ c) (sym i) r))) (λ l. s .first u l r)
+                ⊎-elim (λ i. absurd (omega (arith, dear, subst (λ v. best T shape cs v ≤ c) (sym i) r))) (λ l. s .first u l r)
                 (eq-or-lt-of-le p);
           }
 
   -- v is what `fewest` finds where the counts before it cover too much and it does not, unless it is the last
-  pub fewest-is : (c d w v : ℕ) → w ≤ v → v ≤ w + d → ((u : ℕ) → w ≤ u → u < v → c < best T room h cs u) →
-      (v < w + d → best T room h cs v ≤ c) → v ≡ fewest T room h cs c w d
+  pub fewest-is : (c d w v : ℕ) → w ≤ v → v ≤ w + d → ((u : ℕ) → w ≤ u → u < v → c < best T shape cs u) →
+      (v < w + d → best T shape cs v ≤ c) → v ≡ fewest T shape cs c w d
   unfolding fewest
   fewest-is c zero w v p q f g = omega arith
-  fewest-is c (suc d) w v p q f g = by (leb (best T room h cs w) c) refl (eq-or-lt-of-le p) (fewest-is c d (suc w) v)
+  fewest-is c (suc d) w v p q f g = by (leb (best T shape cs w) c) refl (eq-or-lt-of-le p) (fewest-is c d (suc w) v)
     where
-      by : (b : Bool) → leb (best T room h cs w) c ≡ b → (w ≡ v) ⊎ (w < v) →
-          (suc w ≤ v → v ≤ suc w + d → ((u : ℕ) → suc w ≤ u → u < v → c < best T room h cs u) →
-          (v < suc w + d → best T room h cs v ≤ c) → v ≡ fewest T room h cs c (suc w) d) →
-          v ≡ cond b w (fewest T room h cs c (suc w) d)
+      by : (b : Bool) → leb (best T shape cs w) c ≡ b → (w ≡ v) ⊎ (w < v) →
+          (suc w ≤ v → v ≤ suc w + d → ((u : ℕ) → suc w ≤ u → u < v → c < best T shape cs u) →
+          (v < suc w + d → best T shape cs v ≤ c) → v ≡ fewest T shape cs c (suc w) d) →
+          v ≡ cond b w (fewest T shape cs c (suc w) d)
       by true e (inl same) later = sym same
       by true e (inr l) later =
-          let cheap : best T room h cs w ≤ c = leb-true _ _ e in
+          let cheap : best T shape cs w ≤ c = leb-true _ _ e in
           absurd (omega (arith, cheap, f w (le-refl w) l))
       by false e (inl same) later =
-          let dear : c < best T room h cs w = leb-false _ _ e in
-          absurd (omega (arith, dear, subst (λ u. best T room h cs u ≤ c) (sym same) (g (omega arith))))
+          let dear : c < best T shape cs w = leb-false _ _ e in
+          absurd (omega (arith, dear, subst (λ u. best T shape cs u ≤ c) (sym same) (g (omega arith))))
       by false e (inr l) later = later l (omega arith) (λ u a b. f u (omega arith) b) (λ a. g (omega arith))
 
   module _ (w c : ℕ) where
-    pub exists→enough : {ms : List ℕ} → Fits room h cs w c ms → best T room h cs w ≤ c
-    exists→enough f = omega (arith, at-least T room h f, f .short)
+    pub exists→enough : {ms : List ℕ} → Fits shape cs w c ms → best T shape cs w ≤ c
+    exists→enough f = omega (arith, at-least T shape f, f .short)
 
-    module _ (small : c < T) (enough : best T room h cs w ≤ c) where
-      pub enough→exists : (ms : List ℕ) × Fits room h cs w c ms
+    module _ (small : c < T) (enough : best T shape cs w ≤ c) where
+      pub enough→exists : (ms : List ℕ) × Fits shape cs w c ms
       enough→exists =
-          let (ms, f) = met T room h cs w (omega arith) in
+          let (ms, f) = met T shape cs w (omega arith) in
           (ms, record { in-rule = f .in-rule; few = f .few; short = omega (arith, f .short) })
 
-      pub least-covered : LeastOver (Fits room h cs w c) covered (best T room h cs w)
+      pub least-covered : LeastOver (Fits shape cs w c) covered (best T shape cs w)
       least-covered =
-          let (ms, f) = met T room h cs w (omega arith) in
-          let low = at-least T room h f in
+          let (ms, f) = met T shape cs w (omega arith) in
+          let low = at-least T shape f in
           record {
             met = (ms, record { in-rule = f .in-rule; few = f .few; short = omega (arith, f .short) }, le-antisymm (f .short) low);
-            least = λ ms g. at-least T room h g;
+            least = λ ms g. at-least T shape g;
           }
 
-      pub least-windows : LeastOver (Fits room h cs w c) windows (fewest T room h cs c 0 w)
+      pub least-windows : LeastOver (Fits shape cs w c) windows (fewest T shape cs c 0 w)
       least-windows =
-          let v = fewest T room h cs c 0 w in
-          let f : First c 0 v = fewest-first c 0 w (subst (λ v. best T room h cs v ≤ c) (omega arith) enough) in
+          let v = fewest T shape cs c 0 w in
+          let f : First c 0 v = fewest-first c 0 w (subst (λ v. best T shape cs v ≤ c) (omega arith) enough) in
           let within : v ≤ w = f .first w (omega arith) enough in
-          let (ms, g) = met T room h cs v (omega (arith, f .enough)) in
+          let (ms, g) = met T shape cs v (omega (arith, f .enough)) in
           record {
             met = (
               ms,
@@ -94,46 +95,43 @@ module _ (T room h : ℕ) (cs : List Class) where
             least = λ ms g. by-count f ms (g .in-rule) (g .short);
           }
         where
-          by-count : {v : ℕ} → First c 0 v → (ms : List ℕ) → legalBy allows (suc room) h cs ms ≡ true → covered ms ≤ c →
+          by-count : {v : ℕ} → First c 0 v → (ms : List ℕ) → legalBy allows (nonzero shape) cs ms ≡ true → covered ms ≤ c →
               v ≤ windows ms
           by-count f ms e s =
-              let g : Fits room h cs (windows ms) c ms = record { in-rule = e; few = le-refl _; short = s } in
-              f .first (windows ms) (omega arith) (omega (arith, at-least T room h g, s))
+              let g : Fits shape cs (windows ms) c ms = record { in-rule = e; few = le-refl _; short = s } in
+              f .first (windows ms) (omega arith) (omega (arith, at-least T shape g, s))
 
 -- what the two numbers of settings and classes are
 module _ (s : Settings) (cs : List Class) where
-  abbrev room : ℕ
-  room = s .len - 1
-
   abbrev w : ℕ
   w = s .windows .most
 
   abbrev c : ℕ
   c = s .covered .most
 
-  covers : (ms : List ℕ) → LegalMarks s cs ms → windows ms ≤ w → best sentinel room (s .h) cs w ≤ covered ms
-  covers ms e few = at-least sentinel room (s .h) (record { in-rule = e; few = few; short = le-refl _ })
+  covers : (ms : List ℕ) → LegalMarks s cs ms → windows ms ≤ w → best sentinel (s .shape) cs w ≤ covered ms
+  covers ms e few = at-least sentinel (s .shape) (record { in-rule = e; few = few; short = le-refl _ })
 
   pub least-counts : LeastCounts s cs
   least-counts =
       record {
         covers = covers;
         covered = λ below.
-            let (ms, f) = met sentinel room (s .h) cs w below in
+            let (ms, f) = met sentinel (s .shape) cs w below in
             record {
               met = (ms, (f .in-rule, f .few), le-antisymm (f .short) (covers ms (f .in-rule) (f .few)));
               least = λ ms (e, few). covers ms e few;
             };
-        windows = λ below ms f. least-windows sentinel room (s .h) cs w c below (exists→enough sentinel room (s .h) cs w c f);
+        windows = λ below ms f. least-windows sentinel (s .shape) cs w c below (exists→enough sentinel (s .shape) cs w c f);
         none = λ below no.
             sym
-            (fewest-is sentinel room (s .h) cs c w 0 w (omega arith) (omega arith)
+            (fewest-is sentinel (s .shape) cs c w 0 w (omega arith) (omega arith)
             (λ u _ less. lt-of-not-le λ enough.
-            let (ms, f) = enough→exists sentinel room (s .h) cs u c below enough in
+            let (ms, f) = enough→exists sentinel (s .shape) cs u c below enough in
             no ms (record { in-rule = f .in-rule; few = omega (arith, f .few, less); short = f .short }))
             (λ less. absurd (omega arith)));
         at-sentinel = λ above.
             sym
-            (fewest-is sentinel room (s .h) cs c w 0 0 (omega arith) (omega arith) (λ u _ less. absurd (omega arith))
-            (λ _. omega (arith, best-le sentinel room (s .h) cs 0, above)));
+            (fewest-is sentinel (s .shape) cs c w 0 0 (omega arith) (omega arith) (λ u _ less. absurd (omega arith))
+            (λ _. omega (arith, best-le sentinel (s .shape) cs 0, above)));
       }

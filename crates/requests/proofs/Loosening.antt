@@ -13,27 +13,27 @@ use Rattle.rule.specs.Rule.{carries, legal, windows, covered, LeastOver}
 use Rattle.settings.specs.declared.CountRange.{CountRange}
 use Rattle.requests.proofs.Choices.{in-slots, from-slots}
 use Rattle.requests.proofs.Outcomes.{planned-so, planned-where, least-windows, least-covered}
-use Rattle.requests.proofs.Requests.{formed, width, chosen-slots}
+use Rattle.requests.proofs.Requests.{formed, chosen-slots}
 use Rattle.requests.specs.Demand3.{Wider, Looser, Loosens, LoosensAnswer}
-use Rattle.requests.specs.Promise.{Raised, planned, Outcome, Keeps}
-use Rattle.requests.specs.Request.{Request, slots, ranges, WellFormed, PlanOf, LeftAt}
+use Rattle.requests.specs.Promise.{Raised, Outcome, Says, Keeps}
+use Rattle.requests.specs.Request.{Request, slots, ranges, WellFormed, LegalWith, PlanOf, LeftAt}
+use Rattle.requests.specs.declared.PlanCounts.{PlanCounts}
 
 module _ (t l : Request) (t-formed : WellFormed t) (l-formed : WellFormed l) (looser : Looser l t) where
   chosen : (xs : List ℤ) → ChosenIn (ranges t) xs → ChosenIn (ranges l) xs
   chosen xs c =
       let n = chosen-slots t (formed .0 t-formed) xs c in
-      from-slots xs (l .lowest) (l .highest) (looser .as-many ∙ sym n) (width l (formed .0 l-formed) ∙ looser .as-many ∙ sym n)
+      from-slots xs (l .lowest) (l .highest) (looser .as-many ∙ sym n) (formed .0 l-formed .width ∙ looser .as-many ∙ sym n)
       (λ i h.
       let there : i < slots t = omega (arith, h, n) in
-      let (lo, hi) = in-slots (t .lowest) (t .highest) xs i there (omega (arith, there, width t (formed .0 t-formed))) c in
+      let (lo, hi) = in-slots (t .lowest) (t .highest) xs i there (omega (arith, there, formed .0 t-formed .width)) c in
       let (lo′, hi′) = looser .contains i there in
       (≤ℤ-trans lo′ lo, ≤ℤ-trans hi hi′))
 
-  in-rule : (xs : List ℤ) (ms : List ℕ) → legal (t .settings .k) (t .settings .len) (t .settings .h) xs ms ≡ true →
-      legal (l .settings .k) (l .settings .len) (l .settings .h) xs ms ≡ true
+  in-rule : (xs : List ℤ) (ms : List ℕ) → LegalWith t xs ms → LegalWith l xs ms
   in-rule xs ms e =
-      subst (λ k. legal k (l .settings .len) (l .settings .h) xs ms ≡ true) (sym (looser .threshold))
-      (loosened (looser .len) (looser .h) (carries (t .settings .k)) xs ms e)
+      subst (λ k. legal k (l .settings .shape) xs ms ≡ true) (sym (looser .threshold 0))
+      (loosened (looser .shape) (carries (t .settings .k)) xs ms e)
 
   plans : (ms : List ℕ) → PlanOf t ms → PlanOf l ms
   plans ms p =
@@ -79,18 +79,17 @@ module _ (t l : Request) (t-formed : WellFormed t) (l-formed : WellFormed l) (lo
       omega (arith, no-higher plans (a .least) (b .least), g .least, a .minimum, b .minimum)
 
   pub loosening-answers : (first second : Outcome) → Keeps t first → Keeps l second →
-      (w c : CountRange) → first .answer ≡ planned w c → LoosensAnswer t first second w c
-  loosening-answers first second k k′ w c e =
-      let p = planned-so t first k w c e in
+      (n : PlanCounts) → Says first n → LoosensAnswer t first second n
+  loosening-answers first second k k′ n e =
+      let p = planned-so t first k n e in
       let (ms, plan, _) = p .windows .least .met in
       let q = planned-where l second k′ l-formed ms (plans ms plan) in
       record {
-        w′ = q .windows;
-        c′ = q .covered;
+        counts = q .counts;
         answer = q .answer;
         loads = λ i h x m.
             let h′ : i < slots l = omega (arith, h, looser .as-many) in
             q .promise .narrowed i h′ .exact x .1 (loads i x (p .narrowed i h .exact x .0 m));
-        windows = minimum windows _ _ w (q .windows) (looser .windows) (p .windows) (q .promise .windows);
-        covered = minimum covered _ _ c (q .covered) (looser .covered) (p .covered) (q .promise .covered);
+        windows = minimum windows _ _ (n .windows) (q .counts .windows) (looser .windows) (p .windows) (q .promise .windows);
+        covered = minimum covered _ _ (n .covered) (q .counts .covered) (looser .covered) (p .covered) (q .promise .covered);
       }

@@ -12,10 +12,11 @@ use lib.Signed.{ltZ, _<ℤ_, _≤ℤ_}
 use Rattle.facts.proofs.Integers.{side, ≤ℤ-trans, lt→suc-le, suc-le→lt, le→lt-suc, lt→le}
 use Rattle.facts.proofs.Rules.{holds, refuted}
 use Rattle.rule.proofs.Loads.{over→lt, lt→over, under→le, le→under, rise}
-use Rattle.rule.specs.Ranges.{Range, range, Class, under-only, over-only, either, classOf}
+use Rattle.rule.specs.Ranges.{range, Class, under-only, over-only, either, classOf}
+use Rattle.rule.specs.declared.Range.{Range}
 use Rattle.rule.specs.Rule.{over}
 use Rattle.settings.specs.declared.Settings.{Settings}
-use Rattle.requests.proofs.Requests.{Formed, one-side, width, chosen-slots, possible→fits, fits→plan, left→possible, possible→left}
+use Rattle.requests.proofs.Requests.{Formed, one-side, chosen-slots, possible→fits, fits→plan, left→possible, possible→left}
 use Rattle.requests.specs.Promise.{Loss, nothing, under-part, over-part, lowestAfter, highestAfter}
 use Rattle.requests.specs.Request.{Request, slots, at, paired, PlanOf, LeftAt}
 use Rattle.requests.specs.Solution.{classes, possible, lossOf, loss, along}
@@ -131,7 +132,7 @@ module _ (r : Request) (good : Formed r) where
     exact e = by (getD cs i under-only) refl (subst (Ends (s .k) (range lo hi)) (sym class) (ends (s .k) (range lo hi)))
       where
         class : getD cs i under-only ≡ classOf (s .k) (range lo hi)
-        class = class-at (s .k) (r .lowest) (r .highest) i there (omega (arith, there, width r good))
+        class = class-at (s .k) (r .lowest) (r .highest) i there (omega (arith, there, good .width))
 
         -- a slot that is on one side already
         settled : (b : Bool) → getD cs i under-only ≡ one-side b → on-side b ≡ true

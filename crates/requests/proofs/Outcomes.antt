@@ -1,81 +1,64 @@
 -- What keeps the promise, for a request that is not refused: "no plan" or "planned", by whether there is a plan.
-use Prim.Native.Nat.{ℕ, _≤_}
-use native.Mathlib.Omega.{arith}
-use mathlib.Core.List.{List, [], _∷_}
+use Prim.Native.Nat.{ℕ}
+use mathlib.Core.List.{List}
 use mathlib.Core.Logic.{_↔_, _⊎_, inl, inr}
-use mathlib.Core.Option.{Option, none, some, Option·some-ne-none, Option·some-injective}
+use mathlib.Core.Option.{some, Option·some-ne-none, Option·some-injective}
 use mathlib.Core.Path.{_≡_, refl, sym, ap, _∙_, subst}
-use lib.ListN.{length}
-use Rattle.settings.proofs.Passing.{from-21}
-use Rattle.settings.specs.declared.CountRange.{CountRange}
+use Rattle.refusals.specs.Answer.{Answer, refuses, gives}
+use Rattle.refusals.specs.declared.Refusal.{Refusal}
 use Rattle.requests.proofs.Keeping.{answered}
-use Rattle.requests.specs.Promise.{Answer, refuses, no-plan, planned, Outcome, SaysPlanned, Unaltered, Planned, NoPlan, Answers, Keeps}
-use Rattle.requests.specs.Request.{Request, slots, ranges, Refused, numbered, at-slot, crossed, behind, refused, WellFormed}
-use Rattle.requests.specs.Request.{PlanOf, LeastWindows, LeastCovered}
-
-abbrev pub number : Refused → ℕ
-number (numbered n) = n
-number (at-slot n slot) = n
-
--- the numbers of a request's refusals begin where those of lengths and settings do
-pub number-from-21 : (r : Request) (f : Refused) → refused r ≡ some f → 21 ≤ number f
-unfolding refused
-number-from-21 r f e =
-    by _ (crossed 0 (ranges r)) (λ n. from-21 (slots r) (length (r .highest) ∷ length (r .marks) ∷ []) (r .settings)) e
-  where
-    by : (o slot : Option ℕ) → ((n : ℕ) → o ≡ some n → 21 ≤ n) → behind o slot ≡ some f → 21 ≤ number f
-    by (some n) slot from e = subst (λ f. 21 ≤ number f) (Option·some-injective _ _ e) (from n refl)
-    by none (some slot) from e = subst (λ f. 21 ≤ number f) (Option·some-injective _ _ e) (omega arith)
-    by none none from e = absurd (Option·some-ne-none _ (sym e))
+use Rattle.requests.specs.Promise.{Result, no-plan, planned, Outcome, Says, SaysPlanned, SaysNoPlan}
+use Rattle.requests.specs.Promise.{Unaltered, Planned, NoPlan, Answers, Keeps}
+use Rattle.requests.specs.Request.{Request, refused, WellFormed, PlanOf, LeastWindows, LeastCovered}
+use Rattle.requests.specs.declared.PlanCounts.{PlanCounts}
 
 -- an outcome that is "planned", with what the promise says of it
 pub record IsPlanned (r : Request) (o : Outcome) : Type 0 where
-  pub windows : CountRange
-  pub covered : CountRange
-  pub answer : o .answer ≡ planned windows covered
-  pub promise : Planned r windows covered o
+  pub counts : PlanCounts
+  pub answer : Says o counts
+  pub promise : Planned r counts o
 
 module _ (r : Request) (o : Outcome) (keeps : Keeps r o) where
-  pub planned-so : (w c : CountRange) → o .answer ≡ planned w c → Planned r w c o
-  planned-so w c e = subst (λ a. Answers r a o) e keeps .1
+  pub planned-so : (n : PlanCounts) → Says o n → Planned r n o
+  planned-so n e = subst (λ a. Answers r a o) e keeps .1
 
-  pub none-so : o .answer ≡ no-plan → NoPlan r
+  pub none-so : SaysNoPlan o → NoPlan r
   none-so e = subst (λ a. Answers r a o) e keeps .1
 
-  pub unaltered-so : (o .answer ≡ no-plan → Unaltered r o) × ((f : Refused) → o .answer ≡ refuses f → Unaltered r o)
+  pub unaltered-so : (SaysNoPlan o → Unaltered r o) × ((f : Refusal) → o .answer ≡ refuses f → Unaltered r o)
   unaltered-so = ((λ e. subst (λ a. Answers r a o) e keeps .2), λ f e. subst (λ a. Answers r a o) e keeps .1)
 
   -- refused exactly when the table says
-  pub refused-so : (f : Refused) → (o .answer ≡ refuses f) ↔ (refused r ≡ some f)
+  pub refused-so : (f : Refusal) → (o .answer ≡ refuses f) ↔ (refused r ≡ some f)
   refused-so f = ((λ e. subst (λ a. Answers r a o) e keeps .0), by (o .answer) keeps)
     where
-      by : (a : Answer) → Answers r a o → refused r ≡ some f → a ≡ refuses f
+      by : (a : Answer Result) → Answers r a o → refused r ≡ some f → a ≡ refuses f
       by (refuses g) k e = ap refuses (Option·some-injective _ _ (sym (k .0) ∙ e))
-      by no-plan k e = absurd (Option·some-ne-none _ (sym e ∙ k .0))
-      by (planned w c) k e = absurd (Option·some-ne-none _ (sym e ∙ k .0))
+      by (gives no-plan) k e = absurd (Option·some-ne-none _ (sym e ∙ k .0))
+      by (gives (planned n)) k e = absurd (Option·some-ne-none _ (sym e ∙ k .0))
 
-  planned-or-none : WellFormed r → IsPlanned r o ⊎ ((o .answer ≡ no-plan) × NoPlan r)
+  planned-or-none : WellFormed r → IsPlanned r o ⊎ (SaysNoPlan o × NoPlan r)
   planned-or-none w = by (o .answer) refl keeps
     where
-      by : (a : Answer) → o .answer ≡ a → Answers r a o → IsPlanned r o ⊎ ((o .answer ≡ no-plan) × NoPlan r)
+      by : (a : Answer Result) → o .answer ≡ a → Answers r a o → IsPlanned r o ⊎ (SaysNoPlan o × NoPlan r)
       by (refuses f) e k = absurd (Option·some-ne-none _ (sym (k .0) ∙ w))
-      by no-plan e k = inr (e, k .1)
-      by (planned w c) e k = inl (record { windows = w; covered = c; answer = e; promise = k .1 })
+      by (gives no-plan) e k = inr (e, k .1)
+      by (gives (planned n)) e k = inl (record { counts = n; answer = e; promise = k .1 })
 
   pub planned-where : WellFormed r → (ms : List ℕ) → PlanOf r ms → IsPlanned r o
   planned-where w ms p = by (planned-or-none w)
     where
-      by : IsPlanned r o ⊎ ((o .answer ≡ no-plan) × NoPlan r) → IsPlanned r o
+      by : IsPlanned r o ⊎ (SaysNoPlan o × NoPlan r) → IsPlanned r o
       by (inl i) = i
       by (inr (e, n)) = absurd (n ms p)
 
   pub says-planned : WellFormed r → (ms : List ℕ) → PlanOf r ms → SaysPlanned o
-  says-planned w ms p = let i = planned-where w ms p in (i .windows, i .covered, i .answer)
+  says-planned w ms p = let i = planned-where w ms p in (i .counts, i .answer)
 
-  pub says-none : WellFormed r → NoPlan r → o .answer ≡ no-plan
+  pub says-none : WellFormed r → NoPlan r → SaysNoPlan o
   says-none w n = by (planned-or-none w)
     where
-      by : IsPlanned r o ⊎ ((o .answer ≡ no-plan) × NoPlan r) → o .answer ≡ no-plan
+      by : IsPlanned r o ⊎ (SaysNoPlan o × NoPlan r) → SaysNoPlan o
       by (inl i) = let (ms, p, _) = i .promise .windows .least .met in absurd (n ms p)
       by (inr (e, _)) = e
 

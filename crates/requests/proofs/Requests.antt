@@ -1,32 +1,39 @@
 -- A well formed request as facts, and its plans and the loads left to it by the classes of its slots.
-use Prim.Native.Nat.{ℕ, suc, _-_, _≤_, _<_}
+use Prim.Native.Nat.{ℕ, suc, _<_}
 use native.Mathlib.Nat.{le-refl}
 use native.Mathlib.Omega.{arith}
 use mathlib.Core.Bool.{Bool, true, false, cond, not}
 use mathlib.Core.List.{List, [], _∷_, map}
 use mathlib.Core.Logic.{_↔_}
-use mathlib.Core.Option.{Option, none, some, Option·some-ne-none}
+use mathlib.Core.Option.{none, some, Option·some-ne-none}
 use mathlib.Core.Path.{_≡_, refl, sym, _∙_, subst}
 use borrow.Author.Tests.{leb-true, le-leb}
 use lib.Dec.{T}
 use lib.IntN.{ℤ}
 use lib.ListN.{length, set, length-map}
 use lib.Signed.{ltZ, _≤ℤ_, ltZ-no, ltZ-yes, clashℤ, ≤ℤ-refl}
-use Rattle.settings.proofs.Passing.{Passing, passing}
+use Rattle.refusals.proofs.Table.{clear-as-one}
+use Rattle.refusals.specs.Table.{first}
+use Rattle.refusals.specs.declared.Refusal.the-variants.{Crossed}
+use Rattle.settings.proofs.Passing.{Passing, passing, same}
+use Rattle.rule.proofs.Plan.{nonzero-same}
 use Rattle.rule.proofs.Ranges.{chosen-length, by-classes}
-use Rattle.facts.proofs.Rules.{refuted}
-use Rattle.rule.specs.Ranges.{Range, range, Proper, ChosenIn, LegalFor, Class, under-only, over-only, either, classOf, allows}
-use Rattle.rule.specs.Rule.{over, legal, legalBy, windows}
+use Rattle.facts.proofs.Rules.{neither, refuted}
+use Rattle.rule.specs.Ranges.{range, Proper, ChosenIn, LegalFor, Class, under-only, over-only, either, classOf, allows}
+use Rattle.rule.specs.Rule.{over, legal, legalBy, nonzero, windows}
+use Rattle.rule.specs.declared.Range.{Range}
 use Rattle.settings.specs.declared.Settings.{Settings}
 use Rattle.requests.proofs.Choices.{paired-length, paired-set, in-slots, pin, unpin, replaced-proper, replaced-class}
 use Rattle.requests.proofs.Least.{exists→enough, enough→exists}
 use Rattle.requests.specs.Best.{Fits}
-use Rattle.requests.specs.Request.{Request, slots, ranges, at, paired, crossed, behind, refused, WellFormed, PlanOf, UnlimitedPlanOf, LeftAt}
+use Rattle.requests.specs.Request.{Request, slots, ranges, at, paired, crossed, requestRefusal, refused, WellFormed, PlanOf, UnlimitedPlanOf, LeftAt}
 use Rattle.requests.specs.Solution.{sentinel, classes, FitsAt, possible}
 
 -- what is known of a request that is not refused
 pub record Formed (r : Request) : Type 0 where
-  pub pass : Passing (slots r) (length (r .highest) ∷ length (r .marks) ∷ []) (r .settings)
+  pub pass : Passing (slots r) (r .settings)
+  pub width : length (r .highest) ≡ slots r
+  pub marked : length (r .marks) ≡ slots r
   pub proper : Proper (ranges r)
 
 uncrossed→proper : (i : ℕ) (rs : List Range) → crossed i rs ≡ none → Proper rs
@@ -34,7 +41,7 @@ unfolding crossed
 uncrossed→proper i [] e = tt
 uncrossed→proper i (r ∷ rs) e = by (ltZ (r .highest) (r .lowest)) refl e (uncrossed→proper (suc i) rs)
   where
-    by : (b : Bool) → ltZ (r .highest) (r .lowest) ≡ b → cond b (some i) (crossed (suc i) rs) ≡ none →
+    by : (b : Bool) → ltZ (r .highest) (r .lowest) ≡ b → cond b (some (Crossed i)) (crossed (suc i) rs) ≡ none →
         (crossed (suc i) rs ≡ none → Proper rs) → Proper (r ∷ rs)
     by true q e f = absurd (Option·some-ne-none _ e)
     by false q e f = (ltZ-no (subst (λ b. T (not b)) (sym q) tt), f e)
@@ -45,26 +52,31 @@ proper→uncrossed i [] p = refl
 proper→uncrossed i (r ∷ rs) (l, p) =
     rw (refuted (ltZ (r .highest) (r .lowest)) (λ e. clashℤ (ltZ-yes (subst T (sym e) tt)) l)) (proper→uncrossed (suc i) rs p)
 
-apart : (a b : Option ℕ) → behind a b ≡ none → (a ≡ none) × (b ≡ none)
-apart (some n) b e = absurd (Option·some-ne-none _ e)
-apart none (some i) e = absurd (Option·some-ne-none _ e)
-apart none none e = (refl, refl)
+to : (r : Request) → WellFormed r → Formed r
+unfolding refused requestRefusal
+to r e =
+    let (checked, e) = clear-as-one _ _ e in
+    let (same-lengths, pass) = passing .0 checked in
+    let (width, marked) = neither _ _ same-lengths in
+    record {
+      pass = pass;
+      width = same _ _ .0 width;
+      marked = same _ _ .0 marked;
+      proper = uncrossed→proper 0 _ (clear-as-one _ _ e .0);
+    }
+
+from : (r : Request) → Formed r → WellFormed r
+unfolding refused requestRefusal first
+from r f =
+    rw (
+      same (slots r) (length (r .highest)) .1 (f .width),
+      same (slots r) (length (r .marks)) .1 (f .marked),
+      passing .1 (refl, f .pass),
+      proper→uncrossed 0 (ranges r) (f .proper),
+    )
 
 pub formed : {r : Request} → WellFormed r ↔ Formed r
-unfolding refused
-formed {r} = (to, from)
-  where
-    to : WellFormed r → Formed r
-    to e =
-        let (lengths, ends) = apart _ _ e in
-        record { pass = passing .0 lengths; proper = uncrossed→proper 0 _ ends }
-
-    from : Formed r → WellFormed r
-    from f = rw (passing .1 (f .pass), proper→uncrossed 0 _ (f .proper))
-
--- 23 leaves a window length of at least 1
-room : (len : ℕ) → 1 ≤ len → suc (len - 1) ≡ len
-room len e = omega arith
+formed {r} = (to r, from r)
 
 -- a slot that is on one side of the threshold
 abbrev pub one-side : Bool → Class
@@ -77,19 +89,14 @@ module _ (r : Request) where
 
   module _ (formed : Formed r) where
     legal-by : (rs : List Range) (ms : List ℕ) → Proper rs →
-        LegalFor (s .k) (s .len) (s .h) rs ms ↔ (legalBy allows (suc (s .len - 1)) (s .h) (map (classOf (s .k)) rs) ms ≡ true)
-    legal-by rs ms p =
-        rw (room (s .len) (formed .pass .length .0)) (by-classes (s .k) (s .len) (s .h) rs ms p)
-
-    -- 22 leaves slices of one length
-    pub width : length (r .highest) ≡ slots r
-    width = formed .pass .same .0
+        LegalFor (s .k) (s .shape) rs ms ↔ (legalBy allows (nonzero (s .shape)) (map (classOf (s .k)) rs) ms ≡ true)
+    legal-by rs ms p = rw (nonzero-same (s .shape) (formed .pass .length .0)) (by-classes (s .k) (s .shape) rs ms p)
 
     pub chosen-slots : (xs : List ℤ) → ChosenIn (ranges r) xs → length xs ≡ slots r
-    chosen-slots xs c = chosen-length (ranges r) xs c ∙ paired-length (r .lowest) (r .highest) (sym width)
+    chosen-slots xs c = chosen-length (ranges r) xs c ∙ paired-length (r .lowest) (r .highest) (sym (formed .width))
 
     pub class-slots : length (classes r) ≡ slots r
-    class-slots = length-map (ranges r) (classOf (s .k)) ∙ paired-length (r .lowest) (r .highest) (sym width)
+    class-slots = length-map (ranges r) (classOf (s .k)) ∙ paired-length (r .lowest) (r .highest) (sym (formed .width))
 
     -- 26 and 21 leave a covered maximum below the sentinel
     pub small : s .covered .most < sentinel
@@ -97,11 +104,11 @@ module _ (r : Request) where
 
     pub possible→fits : (cs : List Class) → possible s cs ≡ true → (ms : List ℕ) × FitsAt s cs ms
     unfolding possible
-    possible→fits cs e = enough→exists sentinel (s .len - 1) (s .h) cs _ _ small (leb-true _ _ e)
+    possible→fits cs e = enough→exists sentinel (s .shape) cs _ _ small (leb-true _ _ e)
 
     pub fits→possible : {cs : List Class} {ms : List ℕ} → FitsAt s cs ms → possible s cs ≡ true
     unfolding possible
-    fits→possible {cs} f = le-leb _ _ (exists→enough sentinel (s .len - 1) (s .h) cs _ _ f)
+    fits→possible {cs} f = le-leb _ _ (exists→enough sentinel (s .shape) cs _ _ f)
 
     pub plan→fits : {ms : List ℕ} → PlanOf r ms → FitsAt s (classes r) ms
     plan→fits {ms} p =
@@ -131,8 +138,8 @@ module _ (r : Request) where
           by true = refl
           by false = refl
 
-      fits-pinned : (ms : List ℕ) → LegalFor (s .k) (s .len) (s .h) pinned ms ↔
-          (legalBy allows (suc (s .len - 1)) (s .h) pinnedClasses ms ≡ true)
+      fits-pinned : (ms : List ℕ) → LegalFor (s .k) (s .shape) pinned ms ↔
+          (legalBy allows (nonzero (s .shape)) pinnedClasses ms ≡ true)
       fits-pinned ms =
           rw (← replaced-class (ranges r) i x x pin-is (s .k) pin-class)
           (legal-by pinned ms (replaced-proper (ranges r) i x x pin-is (≤ℤ-refl x) (formed .proper)))
@@ -141,7 +148,7 @@ module _ (r : Request) where
           (i < slots r) × (at (r .lowest) i ≤ℤ x) × (x ≤ℤ at (r .highest) i) × (possible s pinnedClasses ≡ true)
       left→possible l =
           let there : i < slots r = omega (arith, l .there, chosen-slots (l .loads) (l .chosen)) in
-          let (lo, hi) = in-slots (r .lowest) (r .highest) (l .loads) i there (omega (arith, there, width)) (l .chosen) in
+          let (lo, hi) = in-slots (r .lowest) (r .highest) (l .loads) i there (omega (arith, there, formed .width)) (l .chosen) in
           let chosen : ChosenIn pinned (l .loads) =
           subst (λ x. ChosenIn (paired (set (r .lowest) i x) (set (r .highest) i x)) (l .loads)) (l .occurs)
           (pin (r .lowest) (r .highest) (l .loads) i (l .chosen)) in
@@ -161,7 +168,7 @@ module _ (r : Request) where
       possible→left p lo hi e =
           let (ms, f) = possible→fits pinnedClasses e in
           let (xs, c, legal) = fits-pinned ms .1 (f .in-rule) in
-          let (chosen, there, occurs) = unpin (r .lowest) (r .highest) xs i x p (omega (arith, p, width)) lo hi c in
+          let (chosen, there, occurs) = unpin (r .lowest) (r .highest) xs i x p (omega (arith, p, formed .width)) lo hi c in
           record {
             loads = xs;
             marks = ms;
@@ -174,11 +181,11 @@ module _ (r : Request) where
 
     -- the same with the window maximum ignored
     pub unlimited→fits : {ms : List ℕ} → UnlimitedPlanOf r ms →
-        Fits (s .len - 1) (s .h) (classes r) (windows ms) (s .covered .most) ms
+        Fits (s .shape) (classes r) (windows ms) (s .covered .most) ms
     unlimited→fits {ms} p =
         record { in-rule = legal-by (ranges r) ms (formed .proper) .0 (p .in-rule); few = le-refl _; short = p .covered-fit }
 
-    pub fits→unlimited : (w : ℕ) {ms : List ℕ} → Fits (s .len - 1) (s .h) (classes r) w (s .covered .most) ms →
+    pub fits→unlimited : (w : ℕ) {ms : List ℕ} → Fits (s .shape) (classes r) w (s .covered .most) ms →
         UnlimitedPlanOf r ms
     fits→unlimited w {ms} f =
         record { in-rule = legal-by (ranges r) ms (formed .proper) .1 (f .in-rule); covered-fit = f .short }

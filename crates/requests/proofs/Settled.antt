@@ -1,11 +1,11 @@
 -- A request with one open slot settled, and a request with the window maximum ignored.
-use Prim.Native.Nat.{ℕ, suc, _-_, _≤_}
+use Prim.Native.Nat.{ℕ, suc, _≤_}
 use native.Mathlib.Nat.{le-refl}
 use native.Mathlib.Omega.{arith}
-use mathlib.Core.List.{List, [], _∷_}
+use mathlib.Core.List.{List}
 use mathlib.Core.Path.{_≡_, sym, ap, _∙_, subst}
 use lib.IntN.{ℤ, pos, sucℤ}
-use lib.ListN.{length, set, length-set}
+use lib.ListN.{set, length-set}
 use lib.Seq.{set-getD}
 use lib.Signed.{≤ℤ-refl}
 use Rattle.facts.proofs.Integers.{lt→suc-le, le→lt-suc}
@@ -13,7 +13,7 @@ use Rattle.rule.proofs.Classes.{class-over, class-under}
 use Rattle.rule.proofs.Leasts.{same-least}
 use Rattle.rule.proofs.Loads.{lt→over, le→under}
 use Rattle.rule.proofs.Onward.{as-long}
-use Rattle.settings.proofs.Passing.{Passing, beside}
+use Rattle.settings.proofs.Passing.{Passing}
 use Rattle.rule.proofs.Tally.{windows-le}
 use Rattle.rule.specs.Ranges.{range, under-only, over-only, classOf}
 use Rattle.rule.specs.Rule.{carries, windows, LeastOver}
@@ -23,7 +23,7 @@ use Rattle.requests.proofs.Requests.{Formed, formed, class-slots, chose
 use Rattle.requests.proofs.Settling.{settled-under, settled-over}
 use Rattle.requests.specs.Demand3.{LeastUnlimited, Settles, unlimited, Counts, SettlesAnswer}
 use Rattle.requests.specs.Promise.{Outcome, Keeps}
-use Rattle.requests.specs.Request.{Request, ranges, at, paired, PlanOf, UnlimitedPlanOf}
+use Rattle.requests.specs.Request.{Request, ranges, at, paired, thresholdAt, PlanOf, UnlimitedPlanOf}
 use Rattle.requests.specs.Request.{Open, settledUnder, settledOver}
 
 -- the plans with the window maximum ignored are those of the window range 0 to n
@@ -33,12 +33,13 @@ module _ (r : Request) (good : Formed r) where
       record {
         pass = record {
           slots = good .pass .slots;
-          same = good .pass .same;
           length = good .pass .length;
           bridges = good .pass .bridges;
           windows = (omega arith, le-refl _);
           covered = good .pass .covered;
         };
+        width = good .width;
+        marked = good .marked;
         proper = good .proper;
       }
 
@@ -47,7 +48,7 @@ module _ (r : Request) (good : Formed r) where
       let (xs, c, e) = p .in-rule in
       record {
         in-rule = p .in-rule;
-        windows-fit = omega (arith, windows-le ms, as-long (carries (r .settings .k)) _ _ xs ms e, chosen-slots r good xs c);
+        windows-fit = omega (arith, windows-le ms, as-long (carries (r .settings .k)) _ xs ms e, chosen-slots r good xs c);
         covered-fit = p .covered-fit;
       }
 
@@ -64,7 +65,7 @@ module _ (r : Request) (good : Formed r) where
 
 module _ (r : Request) (good : Formed r) (i : ℕ) (slot : Open r i) where
   abbrev k : ℤ
-  k = r .settings .k
+  k = thresholdAt r i
 
   abbrev lo : ℤ
   lo = at (r .lowest) i
@@ -91,22 +92,25 @@ module _ (r : Request) (good : Formed r) (i : ℕ) (slot : Open r i) where
   under-formed : Formed (settledUnder r i)
   under-formed =
       record {
-        pass = beside (length-set (r .highest) i k ∙ good .pass .same .0, good .pass .same .1) (good .pass);
+        pass = good .pass;
+        width = length-set (r .highest) i k ∙ good .width;
+        marked = good .marked;
         proper = replaced-proper (ranges r) i lo k under-ranges (slot .low) (good .proper);
       }
 
   over-formed : Formed (settledOver r i)
   over-formed =
-      let others = length (r .highest) ∷ length (r .marks) ∷ [] in
+      let n = sym (length-set (r .lowest) i (sucℤ k)) in
       record {
-        pass = subst (λ n. Passing n others (settledOver r i .settings)) (sym (length-set (r .lowest) i (sucℤ k))) (record {
+        pass = subst (λ n. Passing n (settledOver r i .settings)) n (record {
           slots = good .pass .slots;
-          same = good .pass .same;
           length = good .pass .length;
           bridges = good .pass .bridges;
           windows = good .pass .windows;
           covered = omega (arith, good .pass .covered);
         });
+        width = good .width ∙ n;
+        marked = good .marked ∙ n;
         proper = replaced-proper (ranges r) i (sucℤ k) hi over-ranges (lt→suc-le (slot .high)) (good .proper);
       }
 
@@ -116,7 +120,7 @@ module _ (r : Request) (good : Formed r) (i : ℕ) (slot : Open r i) where
 
   under-step : Step (settledUnder r i)
   under-step ms p =
-      let (ms′, f) = settled-under (r .settings .len - 1) (r .settings .h) i (unlimited→fits r good p) in (
+      let (ms′, f) = settled-under (r .settings .shape) i (unlimited→fits r good p) in (
         ms′,
         fits→unlimited (settledUnder r i) under-formed (suc (windows ms))
             (rw (replaced-class (ranges r) i lo k under-ranges k under-class) f),
@@ -125,7 +129,7 @@ module _ (r : Request) (good : Formed r) (i : ℕ) (slot : Open r i) where
 
   over-step : Step (settledOver r i)
   over-step ms p =
-      let (ms′, f) = settled-over (r .settings .len - 1) (r .settings .h) i (unlimited→fits r good p) in (
+      let (ms′, f) = settled-over (r .settings .shape) i (unlimited→fits r good p) in (
         ms′,
         fits→unlimited (settledOver r i) over-formed (suc (windows ms)) (record {
           in-rule = rw (replaced-class (ranges r) i (sucℤ k) hi over-ranges k over-class) (f .in-rule);
@@ -151,15 +155,14 @@ module _ (r : Request) (good : Formed r) (i : ℕ) (slot : Open r i) where
     settles-answer : (before after : Outcome) → Keeps (unlimited r) before → Keeps (unlimited q) after → SettlesAnswer before after
     settles-answer before after kb ka =
         record {
-          answer = λ w c e.
-              let a = planned-so (unlimited r) before kb w c e .windows in
+          answer = λ n e.
+              let a = planned-so (unlimited r) before kb n e .windows in
               let (ms, p, count) = a .least .met in
               let (ms′, p′, few) = step ms (to-unlimited r good ms p) in
               let q-plan = from-unlimited q q-formed ms′ p′ in
               let b = planned-where (unlimited q) after ka (formed .1 (unlimited-formed q q-formed)) ms′ q-plan in
               let raised = b .promise .windows in (
-                b .windows,
-                b .covered,
+                b .counts,
                 b .answer,
                 omega (arith, a .minimum, count, few, raised .minimum, raised .least .least ms′ q-plan),
               );
@@ -185,8 +188,8 @@ counting r good o keeps =
     record {
       well = well;
       some = λ ms p. says-planned (unlimited r) o keeps well ms (from-unlimited r good ms p);
-      number = λ w c e.
-          let a = planned-so (unlimited r) o keeps w c e .windows in
+      number = λ n e.
+          let a = planned-so (unlimited r) o keeps n e .windows in
           subst (LeastUnlimited r) (omega (arith, a .minimum)) (least-unlimited r good (a .least));
       none = (
         (λ e ms p. none-so (unlimited r) o keeps e ms (from-unlimited r good ms p)),

@@ -1,5 +1,5 @@
 -- Settling one slot of a plan costs at most one more window, and over the threshold at most one more covered slot.
-use Prim.Native.Nat.{ℕ, zero, suc, _+_, _≤_, min}
+use Prim.Native.Nat.{ℕ, zero, suc, _+_, _-_, _≤_, min}
 use native.Mathlib.Nat.{le-refl, le-suc, le-of-suc-le, le-of-suc-le-suc}
 use native.Mathlib.Omega.{arith}
 use mathlib.Core.Bool.{Bool, true}
@@ -11,13 +11,14 @@ use Rattle.rule.proofs.Onward.{as-long}
 use Rattle.rule.proofs.Plan.{State, out, on, PlanBy, done, skip, opens, close, more, bridges, legal→plan, plan→legal}
 use Rattle.rule.proofs.Tally.{covered-le}
 use Rattle.rule.specs.Ranges.{Class, under-only, over-only, allows}
-use Rattle.rule.specs.Rule.{goesWith, count, windows, covered}
+use Rattle.rule.specs.Rule.{nonzero, goesWith, count, windows, covered}
+use Rattle.rule.specs.declared.Shape.{Shape}
 use Rattle.requests.proofs.Exact.{Found}
 use Rattle.requests.specs.Best.{Fits}
 
-module _ (room h : ℕ) where
+module _ (shape : Shape) where
   roomier : {c : Bool} {r b r′ b′ : ℕ} {cs : List Class} {ms : List ℕ} →
-      PlanBy allows room h (on c r b) cs ms → r ≤ r′ → b ≤ b′ → PlanBy allows room h (on c r′ b′) cs ms
+      PlanBy allows shape (on c r b) cs ms → r ≤ r′ → b ≤ b′ → PlanBy allows shape (on c r′ b′) cs ms
   roomier (close p) e f = close p
   roomier {r′ = zero} (more m p) e f = absurd (omega arith)
   roomier {r′ = suc r′} (more m p) e f = more m (roomier p (le-of-suc-le-suc e) f)
@@ -26,14 +27,14 @@ module _ (room h : ℕ) where
   roomier {r′ = suc r′} {b′ = suc b′} (bridges m p) e f = bridges m (roomier p (le-of-suc-le-suc e) (le-of-suc-le-suc f))
 
   may-close : {c : Bool} {r b : ℕ} {cs : List Class} {ms : List ℕ} →
-      PlanBy allows room h (on c r b) cs ms → PlanBy allows room h (on true r b) cs ms
+      PlanBy allows shape (on c r b) cs ms → PlanBy allows shape (on true r b) cs ms
   may-close (close p) = close p
   may-close (more m p) = more m p
   may-close (bridges m p) = bridges m p
 
   -- a window under way is put off until its next over slot
-  put-off : {c : Bool} {r b : ℕ} {cs : List Class} {ms : List ℕ} → PlanBy allows room h (on c r b) cs ms → r ≤ room → b ≤ h →
-      Found room h (out 0) cs (suc (windows ms)) (covered ms)
+  put-off : {c : Bool} {r b : ℕ} {cs : List Class} {ms : List ℕ} → PlanBy allows shape (on c r b) cs ms → r ≤ shape .len - 1 → b ≤ shape .h →
+      Found shape (out 0) cs (suc (windows ms)) (covered ms)
   unfolding windows covered count
   put-off (close p) e f = record { marks = _; plan = p; few = omega arith; short = le-refl _ }
   put-off (more {x = c} m p) e f =
@@ -49,23 +50,23 @@ module _ (room h : ℕ) where
 
   data Room : State → Type 0 where
     outside : Room (out 0)
-    inside : {c : Bool} {r b : ℕ} → r ≤ room → b ≤ h → Room (on c r b)
+    inside : {c : Bool} {r b : ℕ} → r ≤ shape .len - 1 → b ≤ shape .h → Room (on c r b)
 
   -- a bridge before what may close: it goes on, or closes before the bridge
   bridge-before : {r b : ℕ} {c : Class} {cs : List Class} (w n n′ : ℕ) → suc n ≤ n′ → allows c 3 ≡ true →
-      Found room h (on true r b) cs w n → Found room h (on true (suc r) (suc b)) (c ∷ cs) w n′
+      Found shape (on true r b) cs w n → Found shape (on true (suc r) (suc b)) (c ∷ cs) w n′
   unfolding windows covered count
   bridge-before {c = c} w n n′ e m t = by (t .plan) (t .few) (t .short)
     where
-      by : {r b : ℕ} {cs : List Class} {ms : List ℕ} → PlanBy allows room h (on true r b) cs ms → windows ms ≤ w → covered ms ≤ n →
-          Found room h (on true (suc r) (suc b)) (c ∷ cs) w n′
+      by : {r b : ℕ} {cs : List Class} {ms : List ℕ} → PlanBy allows shape (on true r b) cs ms → windows ms ≤ w → covered ms ≤ n →
+          Found shape (on true (suc r) (suc b)) (c ∷ cs) w n′
       by (close p) f s = record { marks = 0 ∷ _; plan = close (skip (uncovers-too c m) p); few = f; short = omega arith }
       by (more l p) f s = record { marks = 3 ∷ _; plan = bridges m (more l p); few = f; short = omega arith }
       by (bridges l p) f s = record { marks = 3 ∷ _; plan = bridges m (bridges l p); few = f; short = omega arith }
 
   -- the first slot, under: it is uncovered, and its window is cut there
-  under : {st : State} {x : Class} {cs : List Class} {ms : List ℕ} → PlanBy allows room h st (x ∷ cs) ms → Room st →
-      Found room h (relaxed st) (under-only ∷ cs) (suc (windows ms)) (covered ms + 0)
+  under : {st : State} {x : Class} {cs : List Class} {ms : List ℕ} → PlanBy allows shape st (x ∷ cs) ms → Room st →
+      Found shape (relaxed st) (under-only ∷ cs) (suc (windows ms)) (covered ms + 0)
   unfolding allows goesWith windows covered count
   under (skip m p) q = record { marks = _; plan = skip refl p; few = omega arith; short = omega arith }
   under (opens m p) q =
@@ -80,8 +81,8 @@ module _ (room h : ℕ) where
   under (bridges m p) q = record { marks = _; plan = bridges refl p; few = omega arith; short = omega arith }
 
   -- the first slot, over: a mark 0 becomes 1, and a mark 3 becomes 2
-  over : {st : State} {x : Class} {cs : List Class} {ms : List ℕ} → PlanBy allows room h st (x ∷ cs) ms → Room st →
-      Found room h (relaxed st) (over-only ∷ cs) (suc (windows ms)) (covered ms + 1)
+  over : {st : State} {x : Class} {cs : List Class} {ms : List ℕ} → PlanBy allows shape st (x ∷ cs) ms → Room st →
+      Found shape (relaxed st) (over-only ∷ cs) (suc (windows ms)) (covered ms + 1)
   unfolding allows goesWith windows covered count
   over (skip m p) outside = record { marks = 1 ∷ _; plan = opens refl (close p); few = le-refl _; short = omega arith }
   over (opens m p) q = record { marks = _; plan = opens refl p; few = omega arith; short = omega arith }
@@ -96,11 +97,11 @@ module _ (room h : ℕ) where
   -- any slot: it gets class c, and up to d more slots are covered
   module _ (c : Class) (d : ℕ) where
     abbrev Here : Type 0
-    Here = (st : State) (x : Class) (cs : List Class) (ms : List ℕ) → PlanBy allows room h st (x ∷ cs) ms → Room st →
-        Found room h (relaxed st) (c ∷ cs) (suc (windows ms)) (covered ms + d)
+    Here = (st : State) (x : Class) (cs : List Class) (ms : List ℕ) → PlanBy allows shape st (x ∷ cs) ms → Room st →
+        Found shape (relaxed st) (c ∷ cs) (suc (windows ms)) (covered ms + d)
 
-    settle : Here → {st : State} {cs : List Class} {ms : List ℕ} (i : ℕ) → PlanBy allows room h st cs ms → Room st →
-        Found room h (relaxed st) (set cs i c) (suc (windows ms)) (covered ms + d)
+    settle : Here → {st : State} {cs : List Class} {ms : List ℕ} (i : ℕ) → PlanBy allows shape st cs ms → Room st →
+        Found shape (relaxed st) (set cs i c) (suc (windows ms)) (covered ms + d)
     unfolding windows covered count
     settle here i done q = record { marks = []; plan = done; few = omega arith; short = omega arith }
     settle here i (close p) q =
@@ -122,20 +123,20 @@ module _ (room h : ℕ) where
     settle here (suc i) (bridges {ms = ms} m p) (inside e f) =
         bridge-before _ (covered ms + d) _ (omega arith) m (settle here i p (inside (le-of-suc-le e) (le-of-suc-le f)))
 
-  module _ (i : ℕ) {cs : List Class} {w c : ℕ} {ms : List ℕ} (f : Fits room h cs w c ms) where
-    plan : PlanBy allows room h (out 0) cs ms
-    plan = legal→plan allows room h cs ms (f .in-rule)
+  module _ (i : ℕ) {cs : List Class} {w c : ℕ} {ms : List ℕ} (f : Fits shape cs w c ms) where
+    plan : PlanBy allows shape (out 0) cs ms
+    plan = legal→plan allows shape cs ms (f .in-rule)
 
-    pub settled-under : (ms′ : List ℕ) × Fits room h (set cs i under-only) (suc (windows ms)) c ms′
+    pub settled-under : (ms′ : List ℕ) × Fits shape (set cs i under-only) (suc (windows ms)) c ms′
     settled-under =
         let t = settle under-only 0 (λ st x cs ms p q. under p q) i plan outside in
-        let e = plan→legal allows room h (set cs i under-only) (t .marks) (t .plan) in
+        let e = plan→legal allows shape (set cs i under-only) (t .marks) (t .plan) in
         (t .marks, record { in-rule = e; few = t .few; short = omega (arith, t .short, f .short) })
 
-    pub settled-over : (ms′ : List ℕ) × Fits room h (set cs i over-only) (suc (windows ms)) (min (suc c) (length cs)) ms′
+    pub settled-over : (ms′ : List ℕ) × Fits shape (set cs i over-only) (suc (windows ms)) (min (suc c) (length cs)) ms′
     settled-over =
         let t = settle over-only 1 (λ st x cs ms p q. over p q) i plan outside in
-        let e = plan→legal allows room h (set cs i over-only) (t .marks) (t .plan) in
+        let e = plan→legal allows shape (set cs i over-only) (t .marks) (t .plan) in
         let most : covered (t .marks) ≤ length cs =
-        omega (arith, covered-le (t .marks), as-long allows (suc room) h _ (t .marks) e, length-set cs i over-only) in
+        omega (arith, covered-le (t .marks), as-long allows (nonzero shape) _ (t .marks) e, length-set cs i over-only) in
         (t .marks, record { in-rule = e; few = t .few; short = omega (arith, t .short, f .short, most) })

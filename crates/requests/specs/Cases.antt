@@ -7,8 +7,11 @@ use lib.IntN.{ℤ, pos, negsuc}
 use lib.ListN.{length, replicate}
 use Rattle.settings.specs.declared.CountRange.{CountRange}
 use Rattle.settings.specs.declared.Settings.{Settings}
+use Rattle.refusals.specs.Answer.{gives}
+use Rattle.rule.specs.Rule.{shaped}
 use Rattle.requests.specs.Promise.{no-plan, planned, Outcome, Keeps}
 use Rattle.requests.specs.Request.{Request}
+use Rattle.requests.specs.declared.PlanCounts.{PlanCounts}
 
 pub record Case : Type 0 where
   pub request : Request
@@ -19,7 +22,7 @@ abbrev pub _‥_ : (least most : ℕ) → CountRange
 least ‥ most = record { least = least; most = most }
 
 abbrev settings : (k : ℤ) (len h : ℕ) (windows covered : CountRange) → Settings
-settings k len h windows covered = record { k = k; len = len; h = h; windows = windows; covered = covered }
+settings k len h windows covered = record { k = k; shape = shaped len h; windows = windows; covered = covered }
 
 -- k = 0 and h = 0
 abbrev asked : (len : ℕ) (windows covered : CountRange) → Settings
@@ -39,8 +42,11 @@ abbrev noPlan : Settings → (lowest highest : List ℤ) → Case
 noPlan s lowest highest =
     record {
       request = request s lowest highest;
-      outcome = record { answer = no-plan; lowest = lowest; highest = highest; marks = before lowest };
+      outcome = record { answer = gives no-plan; lowest = lowest; highest = highest; marks = before lowest };
     }
+
+abbrev pub counts : (windows covered : CountRange) → PlanCounts
+counts windows covered = record { windows = windows; covered = covered }
 
 -- planned with both count ranges, the narrowed ranges and a plan
 abbrev cut : Settings → (lowest highest : List ℤ) → (windows covered : CountRange) → (lowest′ highest′ : List ℤ) →
@@ -48,7 +54,7 @@ abbrev cut : Settings → (lowest highest : List ℤ) → (windows covered : Cou
 cut s lowest highest windows covered lowest′ highest′ marks =
     record {
       request = request s lowest highest;
-      outcome = record { answer = planned windows covered; lowest = lowest′; highest = highest′; marks = marks };
+      outcome = record { answer = gives (planned (counts windows covered)); lowest = lowest′; highest = highest′; marks = marks };
     }
 
 -- planned, and nothing is cut

@@ -6,11 +6,12 @@ use mathlib.Core.Logic.{_↔_}
 use mathlib.Core.Path.{_≡_}
 use lib.IntN.{ℤ}
 use lib.Signed.{_≤ℤ_}
-use Rattle.rule.specs.Rule.{windows, LeastOver}
+use Rattle.rule.specs.Rule.{LooserShape, windows, LeastOver}
 use Rattle.settings.specs.declared.CountRange.{CountRange}
-use Rattle.requests.specs.Promise.{no-plan, planned, Outcome, SaysPlanned, Held, Keeps}
-use Rattle.requests.specs.Request.{Request, slots, at, WellFormed, PlanOf, UnlimitedPlanOf, LeftAt, LeastWindows, LeastCovered}
-use Rattle.requests.specs.Request.{Open, settledUnder, settledOver}
+use Rattle.requests.specs.Promise.{Outcome, Says, SaysPlanned, SaysNoPlan, Held, Keeps}
+use Rattle.requests.specs.Request.{Request, slots, at, thresholdAt, WellFormed, PlanOf, UnlimitedPlanOf, LeftAt}
+use Rattle.requests.specs.Request.{LeastWindows, LeastCovered, Open, settledUnder, settledOver}
+use Rattle.requests.specs.declared.PlanCounts.{PlanCounts}
 
 -- a count range with its maximum no smaller and its minimum no larger
 pub record Wider (wide narrow : CountRange) : Type 0 where
@@ -20,11 +21,10 @@ pub record Wider (wide narrow : CountRange) : Type 0 where
 -- Of two requests with equal threshold and slot count, l is looser than t: its load ranges contain the other's, its window length,
 -- bridge allowance and both maximums are no smaller, and its minimums no larger.
 pub record Looser (l t : Request) : Type 0 where
-  pub threshold : l .settings .k ≡ t .settings .k
+  pub threshold : (i : ℕ) → thresholdAt l i ≡ thresholdAt t i
   pub as-many : slots l ≡ slots t
   pub contains : (i : ℕ) → i < slots t → (at (l .lowest) i ≤ℤ at (t .lowest) i) × (at (t .highest) i ≤ℤ at (l .highest) i)
-  pub len : t .settings .len ≤ l .settings .len
-  pub h : t .settings .h ≤ l .settings .h
+  pub shape : LooserShape (l .settings .shape) (t .settings .shape)
   pub windows : Wider (l .settings .windows) (t .settings .windows)
   pub covered : Wider (l .settings .covered) (t .settings .covered)
 
@@ -38,13 +38,12 @@ pub record Loosens (t l : Request) : Type 0 where
 
 -- The same of what is handed back: if t gets "planned", so does l, each load in a narrowed range of the first is in that slot's
 -- narrowed range of the second, and neither minimum of the second is higher.
-pub record LoosensAnswer (t : Request) (first second : Outcome) (w c : CountRange) : Type 0 where
-  pub w′ : CountRange
-  pub c′ : CountRange
-  pub answer : second .answer ≡ planned w′ c′
+pub record LoosensAnswer (t : Request) (first second : Outcome) (n : PlanCounts) : Type 0 where
+  pub counts : PlanCounts
+  pub answer : Says second counts
   pub loads : (i : ℕ) → i < slots t → (x : ℤ) → Held first i x → Held second i x
-  pub windows : w′ .least ≤ w .least
-  pub covered : c′ .least ≤ c .least
+  pub windows : counts .windows .least ≤ n .windows .least
+  pub covered : counts .covered .least ≤ n .covered .least
 
 -- the least window count, with the window maximum ignored
 abbrev pub LeastUnlimited : Request → ℕ → Type 0
@@ -63,8 +62,7 @@ unlimited r =
     record {
       settings = record {
         k = r .settings .k;
-        len = r .settings .len;
-        h = r .settings .h;
+        shape = r .settings .shape;
         windows = record { least = 0; most = slots r };
         covered = r .settings .covered;
       };
@@ -78,19 +76,19 @@ unlimited r =
 pub record Counts (r : Request) (o : Outcome) : Type 0 where
   pub well : WellFormed (unlimited r)
   pub some : (ms : List ℕ) → UnlimitedPlanOf r ms → SaysPlanned o
-  pub number : (w c : CountRange) → o .answer ≡ planned w c → LeastUnlimited r (w .least)
-  pub none : (o .answer ≡ no-plan) ↔ ((ms : List ℕ) → UnlimitedPlanOf r ms → ⊥)
+  pub number : (n : PlanCounts) → Says o n → LeastUnlimited r (n .windows .least)
+  pub none : SaysNoPlan o ↔ ((ms : List ℕ) → UnlimitedPlanOf r ms → ⊥)
 
 -- The rule of this answer: settled stays "planned", with a window minimum at most one higher.
 pub record SettlesAnswer (before after : Outcome) : Type 0 where
-  pub answer : (w c : CountRange) → before .answer ≡ planned w c →
-      (w′ c′ : CountRange) × (after .answer ≡ planned w′ c′) × (w′ .least ≤ suc (w .least))
+  pub answer : (n : PlanCounts) → Says before n →
+      (m : PlanCounts) × Says after m × (m .windows .least ≤ suc (n .windows .least))
 
 pub record Demand3 : Type 0 where
   -- loosening a request never takes away a plan, a load or a lower count
   pub loosening : (t l : Request) → WellFormed t → WellFormed l → Looser l t → Loosens t l
   pub loosening-answers : (t l : Request) → WellFormed t → WellFormed l → Looser l t → (first second : Outcome) →
-      Keeps t first → Keeps l second → (w c : CountRange) → first .answer ≡ planned w c → LoosensAnswer t first second w c
+      Keeps t first → Keeps l second → (n : PlanCounts) → Says first n → LoosensAnswer t first second n
   -- a request with a plan has both least counts, and with the window maximum ignored the one
   pub least-windows : (r : Request) → WellFormed r → (ms : List ℕ) → PlanOf r ms → (v : ℕ) × LeastWindows r v
   pub least-covered : (r : Request) → WellFormed r → (ms : List ℕ) → PlanOf r ms → (v : ℕ) × LeastCovered r v

@@ -8,28 +8,37 @@ use mathlib.Core.Path.{_≡_}
 use lib.IntN.{ℤ, sucℤ}
 use lib.ListN.{length}
 use lib.Signed.{ltZ, _≤ℤ_}
+use Rattle.refusals.specs.Answer.{Answer, refuses, gives}
 use Rattle.judge.specs.Judgment.{says, judgment}
-use Rattle.rule.specs.Ranges.{Range, ChosenIn}
+use Rattle.rule.specs.Ranges.{ChosenIn}
+use Rattle.rule.specs.declared.Range.{Range}
 use Rattle.rule.specs.Rule.{windows, covered, LeastOver}
 use Rattle.settings.specs.declared.CountRange.{CountRange}
 use Rattle.settings.specs.declared.Settings.{Settings}
-use Rattle.requests.specs.Request.{Request, slots, paired, at, Refused, refused, WellFormed, PlanOf, LeftAt}
+use Rattle.requests.specs.Request.{Request, slots, paired, at, thresholdAt, refused, WellFormed, PlanOf, LeftAt}
+use Rattle.requests.specs.declared.PlanCounts.{PlanCounts}
 
-pub data Answer : Type 0 where
-  refuses : Refused → Answer
-  no-plan : Answer
-  planned : (windows covered : CountRange) → Answer
+-- what is said of a request that is not refused
+pub data Result : Type 0 where
+  no-plan : Result
+  planned : PlanCounts → Result
 
 -- all that comes back: the answer, and what the three slices hold then
 pub record Outcome : Type 0 where
-  pub answer : Answer
+  pub answer : Answer Result
   pub lowest : List ℤ
   pub highest : List ℤ
   pub marks : List ℕ
 
--- the answer is "planned", with some count ranges
+-- the answer is "planned", with these counts; and with some
+abbrev pub Says : Outcome → PlanCounts → Type 0
+Says o n = o .answer ≡ gives (planned n)
+
 abbrev pub SaysPlanned : Outcome → Type 0
-SaysPlanned o = (windows covered : CountRange) × (o .answer ≡ planned windows covered)
+SaysPlanned o = (n : PlanCounts) × Says o n
+
+abbrev pub SaysNoPlan : Outcome → Type 0
+SaysNoPlan o = o .answer ≡ gives no-plan
 
 -- load x is in the range that slot i holds then
 abbrev pub Held : Outcome → (i : ℕ) (x : ℤ) → Type 0
@@ -67,19 +76,19 @@ highestAfter k over-part hi = cond (ltZ k hi) k hi
 -- slot i holds the narrowed range: it has lost a part or nothing, and what is in it is what is left
 pub record Narrowed (r : Request) (o : Outcome) (i : ℕ) : Type 0 where
   pub loss : Loss
-  pub low : at (o .lowest) i ≡ lowestAfter (r .settings .k) loss (at (r .lowest) i)
-  pub high : at (o .highest) i ≡ highestAfter (r .settings .k) loss (at (r .highest) i)
+  pub low : at (o .lowest) i ≡ lowestAfter (thresholdAt r i) loss (at (r .lowest) i)
+  pub high : at (o .highest) i ≡ highestAfter (thresholdAt r i) loss (at (r .highest) i)
   pub exact : (x : ℤ) → Held o i x ↔ LeftAt r i x
 
 -- for some loads in the ranges the judge says yes to the marks, with their counts
 pub record YesFor (s : Settings) (ranges : List Range) (marks : List ℕ) : Type 0 where
   pub loads : List ℤ
   pub chosen : ChosenIn ranges loads
-  pub yes : judgment s loads marks ≡ says true (windows marks) (covered marks)
+  pub yes : judgment s loads marks ≡ gives (says true (windows marks) (covered marks))
 
-pub record Planned (r : Request) (w c : CountRange) (o : Outcome) : Type 0 where
-  pub windows : Raised r windows (r .settings .windows) w
-  pub covered : Raised r covered (r .settings .covered) c
+pub record Planned (r : Request) (n : PlanCounts) (o : Outcome) : Type 0 where
+  pub windows : Raised r windows (r .settings .windows) (n .windows)
+  pub covered : Raised r covered (r .settings .covered) (n .covered)
   pub lowest-length : length (o .lowest) ≡ slots r
   pub highest-length : length (o .highest) ≡ slots r
   pub narrowed : (i : ℕ) → i < slots r → Narrowed r o i
@@ -90,10 +99,10 @@ abbrev pub NoPlan : Request → Type 0
 NoPlan r = (ms : List ℕ) → PlanOf r ms → ⊥
 
 -- neither a refusal nor "no plan" alters a lent slice
-abbrev pub Answers : Request → Answer → Outcome → Type 0
+abbrev pub Answers : Request → Answer Result → Outcome → Type 0
 Answers r (refuses f) o = (refused r ≡ some f) × Unaltered r o
-Answers r no-plan o = WellFormed r × NoPlan r × Unaltered r o
-Answers r (planned w c) o = WellFormed r × Planned r w c o
+Answers r (gives no-plan) o = WellFormed r × NoPlan r × Unaltered r o
+Answers r (gives (planned n)) o = WellFormed r × Planned r n o
 
 abbrev pub Keeps : Request → Outcome → Type 0
 Keeps r o = Answers r (o .answer) o

@@ -1,14 +1,18 @@
 -- A request and its words (document 01, "Words of demand 3").
 use Prim.Native.Nat.{ℕ, suc, _≤_, _<_, min}
-use mathlib.Core.Bool.{true, cond}
+use mathlib.Core.Bool.{Bool, true, cond, _||_}
 use mathlib.Core.List.{List, [], _∷_}
 use mathlib.Core.Option.{Option, none, some}
 use mathlib.Core.Path.{_≡_}
 use lib.IntN.{ℤ, pos, sucℤ}
 use lib.ListN.{length, getD, set}
 use lib.Signed.{ltZ, _<ℤ_, _≤ℤ_}
-use Rattle.rule.specs.Ranges.{Range, range, ChosenIn, LegalFor}
-use Rattle.settings.specs.Refusals.{refusal}
+use Rattle.refusals.specs.Table.{first}
+use Rattle.refusals.specs.declared.Refusal.{Refusal}
+use Rattle.refusals.specs.declared.Refusal.the-variants.{Crossed}
+use Rattle.rule.specs.Ranges.{range, ChosenIn, LegalFor}
+use Rattle.rule.specs.declared.Range.{Range}
+use Rattle.settings.specs.Refusals.{differs, refusal}
 use Rattle.rule.specs.Rule.{legal, windows, covered, LeastOver}
 use Rattle.settings.specs.declared.Settings.{Settings}
 
@@ -37,42 +41,47 @@ ranges r = paired (r .lowest) (r .highest)
 abbrev pub at : List ℤ → ℕ → ℤ
 at loads i = getD loads i (pos 0)
 
--- a refusal carries its number, 31 also the slot ("Where each refusal is checked")
-pub data Refused : Type 0 where
-  numbered : (number : ℕ) → Refused
-  at-slot : (number slot : ℕ) → Refused
+-- the threshold at slot i, the same at each
+abbrev pub thresholdAt : Request → (i : ℕ) → ℤ
+thresholdAt r i = r .settings .k
 
--- the first slot, counted from i, with its lowest load above its highest
-unfoldable pub crossed : (i : ℕ) → List Range → Option ℕ
+-- 31: the first slot, counted from i, with its lowest load above its highest ("Where each refusal is checked")
+unfoldable pub crossed : (i : ℕ) → List Range → Option Refusal
 crossed i [] = none
-crossed i (r ∷ rs) = cond (ltZ (r .highest) (r .lowest)) (some i) (crossed (suc i) rs)
+crossed i (r ∷ rs) = cond (ltZ (r .highest) (r .lowest)) (some (Crossed i)) (crossed (suc i) rs)
 
--- the slots (31) come behind the lengths and settings (21 to 26)
-abbrev pub behind : Option ℕ → Option ℕ → Option Refused
-behind (some number) slot = some (numbered number)
-behind none (some slot) = some (at-slot 31 slot)
-behind none none = none
+-- lengths and settings (21 to 26), then the slots (31); `different` says whether a slice beside the loads' has another length
+unfoldable pub requestRefusal : Settings → (lowest highest : List ℤ) (different : Bool) → Option Refusal
+requestRefusal s los his different =
+    first
+    (refusal (length los) (differs (length los) (length his) || different) s
+    ∷ crossed 0 (paired los his)
+    ∷ [])
 
-unfoldable pub refused : Request → Option Refused
-refused r =
-    behind
-    (refusal (slots r) (length (r .highest) ∷ length (r .marks) ∷ []) (r .settings))
-    (crossed 0 (ranges r))
+unfoldable pub refused : Request → Option Refusal
+refused r = requestRefusal (r .settings) (r .lowest) (r .highest) (differs (slots r) (length (r .marks)))
 
 -- well formed: the filter gives no refusal
 abbrev pub WellFormed : Request → Type 0
 WellFormed r = refused r ≡ none
 
+-- marks that are legal for given loads, and for its ranges
+abbrev pub LegalWith : Request → List ℤ → List ℕ → Type 0
+LegalWith r loads ms = legal (r .settings .k) (r .settings .shape) loads ms ≡ true
+
+abbrev pub LegalIn : Request → List ℕ → Type 0
+LegalIn r ms = LegalFor (r .settings .k) (r .settings .shape) (ranges r) ms
+
 -- its plans: the marks legal for its ranges whose window and covered counts are at most its maximums; the given minimums take no
 -- part
 pub record PlanOf (r : Request) (ms : List ℕ) : Type 0 where
-  pub in-rule : LegalFor (r .settings .k) (r .settings .len) (r .settings .h) (ranges r) ms
+  pub in-rule : LegalIn r ms
   pub windows-fit : windows ms ≤ r .settings .windows .most
   pub covered-fit : covered ms ≤ r .settings .covered .most
 
 -- with the window maximum ignored, the plans are all marks that are legal for the ranges and cover at most the covered maximum
 pub record UnlimitedPlanOf (r : Request) (ms : List ℕ) : Type 0 where
-  pub in-rule : LegalFor (r .settings .k) (r .settings .len) (r .settings .h) (ranges r) ms
+  pub in-rule : LegalIn r ms
   pub covered-fit : covered ms ≤ r .settings .covered .most
 
 -- the loads left to it at slot i: those that occur there in some choice of loads in the ranges for which one of its plans is
@@ -82,7 +91,7 @@ pub record LeftAt (r : Request) (i : ℕ) (x : ℤ) : Type 0 where
   pub marks : List ℕ
   pub chosen : ChosenIn (ranges r) loads
   pub plan : PlanOf r marks
-  pub in-rule : legal (r .settings .k) (r .settings .len) (r .settings .h) loads marks ≡ true
+  pub in-rule : LegalWith r loads marks
   pub there : i < length loads
   pub occurs : at loads i ≡ x
 
@@ -96,21 +105,20 @@ LeastCovered r = LeastOver (PlanOf r) covered
 -- a slot is open when its lowest load is at most the threshold and its highest is greater
 pub record Open (r : Request) (i : ℕ) : Type 0 where
   pub there : i < slots r
-  pub low : at (r .lowest) i ≤ℤ r .settings .k
-  pub high : r .settings .k <ℤ at (r .highest) i
+  pub low : at (r .lowest) i ≤ℤ thresholdAt r i
+  pub high : thresholdAt r i <ℤ at (r .highest) i
 
 -- settling it under makes its highest load the threshold; all else stays
 abbrev pub settledUnder : Request → ℕ → Request
 settledUnder r i =
-    record { settings = r .settings; lowest = r .lowest; highest = set (r .highest) i (r .settings .k); marks = r .marks }
+    record { settings = r .settings; lowest = r .lowest; highest = set (r .highest) i (thresholdAt r i); marks = r .marks }
 
 -- settling it over makes its lowest the threshold plus 1, and the covered maximum one more, or n if that is smaller
 abbrev oneMore : Settings → (n : ℕ) → Settings
 oneMore s n =
     record {
       k = s .k;
-      len = s .len;
-      h = s .h;
+      shape = s .shape;
       windows = s .windows;
       covered = record { least = s .covered .least; most = min (suc (s .covered .most)) n };
     }
@@ -119,7 +127,7 @@ abbrev pub settledOver : Request → ℕ → Request
 settledOver r i =
     record {
       settings = oneMore (r .settings) (slots r);
-      lowest = set (r .lowest) i (sucℤ (r .settings .k));
+      lowest = set (r .lowest) i (sucℤ (thresholdAt r i));
       highest = r .highest;
       marks = r .marks;
     }

@@ -1,6 +1,6 @@
 -- What the filter hands back for a plan of its choice, computed by `best`. The crate least and private functions of the filter
 -- promise it; the filter's promise does not rest on it (proofs/Keeping.antt says that it is kept).
-use Prim.Native.Nat.{ℕ, suc, _-_, _≤_, _<_, max}
+use Prim.Native.Nat.{ℕ, suc, _≤_, _<_, max}
 use mathlib.Core.Bool.{Bool, true, false, cond}
 use mathlib.Core.List.{List, [], _∷_, map}
 use mathlib.Core.Option.{Option, none, some}
@@ -9,36 +9,43 @@ use lib.Dec.{leb}
 use lib.IntN.{ℤ}
 use lib.ListN.{getD, set}
 use Rattle.rule.specs.Ranges.{Class, under-only, over-only, either, classOf, allows}
-use Rattle.rule.specs.Rule.{legalBy, windows, covered, LeastOver}
+use Rattle.refusals.specs.Answer.{Answer, refuses, gives}
+use Rattle.refusals.specs.declared.Refusal.{Refusal}
+use Rattle.rule.specs.Rule.{legalBy, nonzero, windows, covered, LeastOver}
 use Rattle.settings.specs.declared.CountRange.{CountRange}
 use Rattle.settings.specs.declared.Settings.{Settings}
 use Rattle.requests.specs.Best.{Fits, best, fewest}
-use Rattle.requests.specs.Promise.{Answer, refuses, no-plan, planned, Outcome, Loss, nothing, under-part, over-part, lowestAfter, highestAfter}
-use Rattle.requests.specs.Request.{Request, ranges, Refused, refused}
+use Rattle.requests.specs.Promise.{Result, no-plan, planned, Outcome}
+use Rattle.requests.specs.Promise.{Loss, nothing, under-part, over-part, lowestAfter, highestAfter}
+use Rattle.requests.specs.Request.{Request, paired, refused}
 
 -- the covered count that stands for "no plan"
 abbrev pub sentinel : ℕ
 sentinel = 65535
 
+-- what each slot can be
+abbrev pub classesOf : (k : ℤ) (lowest highest : List ℤ) → List Class
+classesOf k los his = map (classOf k) (paired los his)
+
 abbrev pub classes : Request → List Class
-classes r = map (classOf (r .settings .k)) (ranges r)
+classes r = classesOf (r .settings .k) (r .lowest) (r .highest)
 
 -- the least covered count of slots of these classes, within the window maximum, where it is below the sentinel
 abbrev pub cheapest : Settings → List Class → ℕ
-cheapest s cs = best sentinel (s .len - 1) (s .h) cs (s .windows .most)
+cheapest s cs = best sentinel (s .shape) cs (s .windows .most)
 
 -- the least window count of such slots within both maximums, where there is a plan and the covered maximum is below the
 -- sentinel
 abbrev pub sparsest : Settings → List Class → ℕ
-sparsest s cs = fewest sentinel (s .len - 1) (s .h) cs (s .covered .most) 0 (s .windows .most)
+sparsest s cs = fewest sentinel (s .shape) cs (s .covered .most) 0 (s .windows .most)
 
 -- the marks that are legal for slots of these classes. A len of 0 counts as 1
 abbrev pub LegalMarks : Settings → List Class → List ℕ → Type 0
-LegalMarks s cs ms = legalBy allows (suc (s .len - 1)) (s .h) cs ms ≡ true
+LegalMarks s cs ms = legalBy allows (nonzero (s .shape)) cs ms ≡ true
 
 -- such marks within both maximums
 abbrev pub FitsAt : Settings → List Class → List ℕ → Type 0
-FitsAt s cs = Fits (s .len - 1) (s .h) cs (s .windows .most) (s .covered .most)
+FitsAt s cs = Fits (s .shape) cs (s .windows .most) (s .covered .most)
 
 -- What the two numbers are for all settings and classes (proofs/Least.antt).
 pub record LeastCounts (s : Settings) (cs : List Class) : Type 0 where
@@ -88,18 +95,21 @@ found r ms =
     let s = r .settings in
     let cs = classes r in
     record {
-      answer = planned (raised (s .windows) (sparsest s cs)) (raised (s .covered) (cheapest s cs));
+      answer = gives (planned (record {
+        windows = raised (s .windows) (sparsest s cs);
+        covered = raised (s .covered) (cheapest s cs);
+      }));
       lowest = lowestLeft s cs (r .lowest);
       highest = highestLeft s cs (r .highest);
       marks = ms;
     }
 
-abbrev pub unaltered : Request → Answer → Outcome
+abbrev pub unaltered : Request → Answer Result → Outcome
 unaltered r a = record { answer = a; lowest = r .lowest; highest = r .highest; marks = r .marks }
 
-abbrev pub outcomeBy : Option Refused → Bool → Request → List ℕ → Outcome
+abbrev pub outcomeBy : Option Refusal → Bool → Request → List ℕ → Outcome
 outcomeBy (some f) possible r ms = unaltered r (refuses f)
-outcomeBy none false r ms = unaltered r no-plan
+outcomeBy none false r ms = unaltered r (gives no-plan)
 outcomeBy none true r ms = found r ms
 
 unfoldable pub outcome : Request → List ℕ → Outcome

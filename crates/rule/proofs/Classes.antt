@@ -2,8 +2,9 @@
 use mathlib.Core.Bool.{true, false, true≢false}
 use mathlib.Core.Path.{_≡_, refl}
 use lib.IntN.{ℤ}
-use Rattle.rule.specs.Ranges.{Range, Class, under-only, over-only, either, classOf, allows}
+use Rattle.rule.specs.Ranges.{Class, under-only, over-only, either, classOf, allows}
 use Rattle.rule.specs.Rule.{over, goesWith}
+use Rattle.rule.specs.declared.Range.{Range}
 
 module _ (k : ℤ) (r : Range) where
   pub class-over : over k (r .lowest) ≡ true → classOf k r ≡ over-only

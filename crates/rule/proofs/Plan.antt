@@ -14,8 +14,12 @@ use Rattle.rule.proofs.Bytes.{Kind, kind, uncovered, opening, later, br
 use Rattle.rule.proofs.Onward.{Fits, Passes, Onward, start, begin, whole, split, join, ended, clear}
 use Rattle.facts.proofs.Rules.{both}
 use Rattle.rule.specs.Reading.{slotsAfter, bridgesAfter, advanced}
-use Rattle.rule.specs.Rule.{agrees, follows, ordered, legalBy}
+use Rattle.rule.specs.Rule.{agrees, follows, ordered, legalBy, nonzero}
 use Rattle.rule.specs.declared.Reading.{Reading}
+use Rattle.rule.specs.declared.Shape.{Shape}
+
+pub nonzero-same : (shape : Shape) → 1 ≤ shape .len → nonzero shape ≡ shape
+nonzero-same shape e = let f : suc (shape .len - 1) ≡ shape .len = omega arith in λ i. record { len = f i; h = shape .h }
 
 -- outside a window, with uncovered slots still owed before the next; or in a window, with slots and bridges left, which may
 -- close behind an over slot and not behind a bridge
@@ -46,11 +50,11 @@ second : Last true 2
 second = over-slot {p = 2} (omega arith) (omega arith)
 
 -- where a reading stands, as a state
-data Stands (len h : ℕ) : Reading → State → Type 0 where
-  outside : {l b : ℕ} → l ≤ len → b ≤ h → Stands len h (record { mark = 0; slots = l; bridges = b }) (out 0)
-  inside : {c : Bool} {p l b r g : ℕ} → Last c p → l + r ≡ len → b + g ≡ h → Stands len h (record { mark = p; slots = l; bridges = b }) (on c r g)
+data Stands (shape : Shape) : Reading → State → Type 0 where
+  outside : {l b : ℕ} → l ≤ shape .len → b ≤ shape .h → Stands shape (record { mark = 0; slots = l; bridges = b }) (out 0)
+  inside : {c : Bool} {p l b r g : ℕ} → Last c p → l + r ≡ shape .len → b + g ≡ shape .h → Stands shape (record { mark = p; slots = l; bridges = b }) (on c r g)
 
-stands→fits : {len h : ℕ} {at : Reading} {st : State} → Stands len h at st → Fits len h at
+stands→fits : {shape : Shape} {at : Reading} {st : State} → Stands shape at st → Fits shape at
 stands→fits (outside l b) = omega arith
 stands→fits (inside c l b) = omega arith
 
@@ -71,32 +75,32 @@ reordered {p} (m ∷ ms) p₂ e = by (kind m) (both (follows 0 m) (ordered m ms)
     by bridge f = absurd (false≢true (not-started 0 3 (omega arith) (omega arith) ∙ f .0))
     by (above a) f = never 0 a (f .0)
 
-module _ {A : Type 0} (goes : A → ℕ → Bool) (room h : ℕ) where
+module _ {A : Type 0} (goes : A → ℕ → Bool) (shape : Shape) where
   -- a slot may carry the marks that go with it
   abbrev Goes : ℕ → A → Type 0
   Goes m x = goes x m ≡ true
 
   -- marks as the family in which plans are proved
   abbrev pub PlanBy : State → List A → List ℕ → Type 0
-  PlanBy st xs ms = Plan Goes 0 room h st xs ms
+  PlanBy st xs ms = Plan Goes 0 (shape .len - 1) (shape .h) st xs ms
 
   abbrev Stand : Reading → State → Type 0
-  Stand at st = Stands (suc room) h at st
+  Stand at st = Stands (nonzero shape) at st
 
   module _ {x : A} {xs : List A} {ms : List ℕ} where
-    takes-over : {c : Bool} {r g : ℕ} (l : ℕ) → l + r ≡ suc room → l + 1 ≤ suc room → Goes 2 x →
-        ((r : ℕ) → l + 1 + r ≡ suc room → PlanBy (on true r g) xs ms) → PlanBy (on c r g) (x ∷ xs) (2 ∷ ms)
+    takes-over : {c : Bool} {r g : ℕ} (l : ℕ) → l + r ≡ nonzero shape .len → l + 1 ≤ nonzero shape .len → Goes 2 x →
+        ((r : ℕ) → l + 1 + r ≡ nonzero shape .len → PlanBy (on true r g) xs ms) → PlanBy (on c r g) (x ∷ xs) (2 ∷ ms)
     takes-over {r = zero} l e f m p = absurd (omega arith)
     takes-over {r = suc r} l e f m p = more m (p r (omega arith))
 
-    takes-bridge : {c : Bool} {r g : ℕ} (l b : ℕ) → l + r ≡ suc room → l + 1 ≤ suc room → b + g ≡ h → b + 1 ≤ h → Goes 3 x →
-        ((r g : ℕ) → l + 1 + r ≡ suc room → b + 1 + g ≡ h → PlanBy (on false r g) xs ms) → PlanBy (on c r g) (x ∷ xs) (3 ∷ ms)
+    takes-bridge : {c : Bool} {r g : ℕ} (l b : ℕ) → l + r ≡ nonzero shape .len → l + 1 ≤ nonzero shape .len → b + g ≡ shape .h → b + 1 ≤ shape .h → Goes 3 x →
+        ((r g : ℕ) → l + 1 + r ≡ nonzero shape .len → b + 1 + g ≡ shape .h → PlanBy (on false r g) xs ms) → PlanBy (on c r g) (x ∷ xs) (3 ∷ ms)
     takes-bridge {r = zero} l b e f u v m p = absurd (omega arith)
     takes-bridge {r = suc r} {g = zero} l b e f u v m p = absurd (omega arith)
     takes-bridge {r = suc r} {g = suc g} l b e f u v m p = bridges m (p r g (omega arith) (omega arith))
 
     -- one slot more, before what is left at the state where it stands
-    before : {m : ℕ} {at : Reading} {st : State} → Kind m → Stand at st → Passes (suc room) h at (goes x m) m →
+    before : {m : ℕ} {at : Reading} {st : State} → Kind m → Stand at st → Passes (nonzero shape) at (goes x m) m →
         ((st : State) → Stand (advanced at m) st → PlanBy st xs ms) → PlanBy st (x ∷ xs) (m ∷ ms)
     unfolding follows slotsAfter bridgesAfter
     before uncovered (outside l b) p f = skip (p .goes) (f _ (outside (omega arith) (omega arith)))
@@ -117,12 +121,12 @@ module _ {A : Type 0} (goes : A → ℕ → Bool) (room h : ℕ) where
     before {at = at} (above a) s p f = never (at .mark) a (p .follow)
 
     behind : {at : Reading} {st next : State} (m : ℕ) → Stand at st → Goes m x → true ≡ follows (at .mark) m →
-        Stand (advanced at m) next → (Stand (advanced at m) next → Onward goes (suc room) h (advanced at m) xs ms) →
-        Onward goes (suc room) h at (x ∷ xs) (m ∷ ms)
+        Stand (advanced at m) next → (Stand (advanced at m) next → Onward goes (nonzero shape) (advanced at m) xs ms) →
+        Onward goes (nonzero shape) at (x ∷ xs) (m ∷ ms)
     behind m s c f n o =
-        join goes (suc room) h _ ms x xs m (stands→fits s) (record { goes = c; follow = sym f; fits = stands→fits n }) (o n)
+        join goes (nonzero shape) _ ms x xs m (stands→fits s) (record { goes = c; follow = sym f; fits = stands→fits n }) (o n)
 
-  to : {at : Reading} {st : State} (xs : List A) (ms : List ℕ) → Stand at st → Onward goes (suc room) h at xs ms → PlanBy st xs ms
+  to : {at : Reading} {st : State} (xs : List A) (ms : List ℕ) → Stand at st → Onward goes (nonzero shape) at xs ms → PlanBy st xs ms
   unfolding agrees ordered
   to [] [] (outside l b) o = done
   to [] [] (inside (over-slot p₁ p₂) l b) o = close done
@@ -130,22 +134,22 @@ module _ {A : Type 0} (goes : A → ℕ → Bool) (room h : ℕ) where
   to [] (m ∷ ms) s o = absurd (false≢true (o .agree))
   to (x ∷ xs) [] s o = absurd (false≢true (o .agree))
   to (x ∷ xs) (m ∷ ms) s o =
-      let (p, left) = split goes (suc room) h _ ms x xs m o in
+      let (p, left) = split goes (nonzero shape) _ ms x xs m o in
       before (kind m) s p (λ st n. to xs ms n left)
 
   -- a window that closes: what is left outside it
-  closes : {p l b : ℕ} (xs : List A) (ms : List ℕ) → p ≤ 2 → Fits (suc room) h (record { mark = p; slots = l; bridges = b }) →
-      Onward goes (suc room) h start xs ms → Onward goes (suc room) h (record { mark = p; slots = l; bridges = b }) xs ms
+  closes : {p l b : ℕ} (xs : List A) (ms : List ℕ) → p ≤ 2 → Fits (nonzero shape) (record { mark = p; slots = l; bridges = b }) →
+      Onward goes (nonzero shape) start xs ms → Onward goes (nonzero shape) (record { mark = p; slots = l; bridges = b }) xs ms
   closes xs ms p₂ f o =
       record {
         agree = o .agree;
         order = reordered ms p₂ (o .order);
-        room = clear goes (suc room) h ms f (o .order) (o .room .kept);
+        room = clear goes (nonzero shape) ms f (o .order) (o .room .kept);
       }
 
-  from : {at : Reading} {st : State} {xs : List A} {ms : List ℕ} → PlanBy st xs ms → Stand at st → Onward goes (suc room) h at xs ms
+  from : {at : Reading} {st : State} {xs : List A} {ms : List ℕ} → PlanBy st xs ms → Stand at st → Onward goes (nonzero shape) at xs ms
   unfolding slotsAfter bridgesAfter
-  from done (outside l b) = ended goes (suc room) h _ (omega arith) refl
+  from done (outside l b) = ended goes (nonzero shape) _ (omega arith) refl
   from (skip c q) (outside l b) =
       behind 0 (outside l b) c (starts 0 0 (omega arith) (omega arith)) (outside (omega arith) (omega arith)) (λ n. from q n)
   from (opens c q) (outside l b) =
@@ -157,8 +161,8 @@ module _ {A : Type 0} (goes : A → ℕ → Bool) (room h : ℕ) where
   from (bridges c q) (inside p l b) =
       behind 3 (inside p l b) c (on-from p (omega arith) (omega arith)) (inside a-bridge (omega arith) (omega arith)) (λ n. from q n)
 
-  pub legal→plan : (xs : List A) (ms : List ℕ) → legalBy goes (suc room) h xs ms ≡ true → PlanBy (out 0) xs ms
-  legal→plan xs ms e = to xs ms (outside (omega arith) (omega arith)) (begin goes (suc room) h xs ms e)
+  pub legal→plan : (xs : List A) (ms : List ℕ) → legalBy goes (nonzero shape) xs ms ≡ true → PlanBy (out 0) xs ms
+  legal→plan xs ms e = to xs ms (outside (omega arith) (omega arith)) (begin goes (nonzero shape) xs ms e)
 
-  pub plan→legal : (xs : List A) (ms : List ℕ) → PlanBy (out 0) xs ms → legalBy goes (suc room) h xs ms ≡ true
-  plan→legal xs ms p = whole goes (suc room) h xs ms (from p (outside (omega arith) (omega arith)))
+  pub plan→legal : (xs : List A) (ms : List ℕ) → PlanBy (out 0) xs ms → legalBy goes (nonzero shape) xs ms ≡ true
+  plan→legal xs ms p = whole goes (nonzero shape) xs ms (from p (outside (omega arith) (omega arith)))

@@ -11,8 +11,10 @@ use lib.Signed.{_≤ℤ_, ≤ℤ-refl}
 use Rattle.rule.proofs.Loads.{rise}
 use Rattle.rule.proofs.Onward.{apart, together}
 use Rattle.facts.proofs.Rules.{both, or-true}
-use Rattle.rule.specs.Ranges.{Range, Proper, ChosenIn, LegalFor, under-only, over-only, either, classOf, allows}
+use Rattle.rule.specs.Ranges.{Proper, ChosenIn, LegalFor, under-only, over-only, either, classOf, allows}
 use Rattle.rule.specs.Rule.{over, goesWith, agrees, carries, legalBy}
+use Rattle.rule.specs.declared.Range.{Range}
+use Rattle.rule.specs.declared.Shape.{Shape}
 
 pub chosen-length : (rs : List Range) (xs : List ℤ) → ChosenIn rs xs → length xs ≡ length rs
 chosen-length [] [] c = refl
@@ -80,17 +82,17 @@ module _ (k : ℤ) where
       let (xs, cs, b) = from-classes rs ms p a in
       (x ∷ xs, (l, u, cs), rw c b)
 
-pub by-classes : (k : ℤ) (len h : ℕ) (rs : List Range) (ms : List ℕ) → Proper rs →
-    LegalFor k len h rs ms ↔ (legalBy allows len h (map (classOf k) rs) ms ≡ true)
-by-classes k len h rs ms p = (to, from)
+pub by-classes : (k : ℤ) (shape : Shape) (rs : List Range) (ms : List ℕ) → Proper rs →
+    LegalFor k shape rs ms ↔ (legalBy allows shape (map (classOf k) rs) ms ≡ true)
+by-classes k shape rs ms p = (to, from)
   where
-    to : LegalFor k len h rs ms → legalBy allows len h (map (classOf k) rs) ms ≡ true
+    to : LegalFor k shape rs ms → legalBy allows shape (map (classOf k) rs) ms ≡ true
     to (xs, c, e) =
-        let (agree, order, kept) = apart (carries k) len h xs ms e in
-        together allows len h _ ms (to-classes k rs xs ms c agree) order kept
+        let (agree, order, kept) = apart (carries k) shape xs ms e in
+        together allows shape _ ms (to-classes k rs xs ms c agree) order kept
 
-    from : legalBy allows len h (map (classOf k) rs) ms ≡ true → LegalFor k len h rs ms
+    from : legalBy allows shape (map (classOf k) rs) ms ≡ true → LegalFor k shape rs ms
     from e =
-        let (agree, order, kept) = apart allows len h _ ms e in
+        let (agree, order, kept) = apart allows shape _ ms e in
         let (xs, c, a) = from-classes k rs ms p agree in
-        (xs, c, together (carries k) len h xs ms a order kept)
+        (xs, c, together (carries k) shape xs ms a order kept)

@@ -6,11 +6,8 @@ use mathlib.Core.Path.{_≡_}
 use lib.IntN.{ℤ}
 use lib.Signed.{_≤ℤ_}
 use Rattle.rule.specs.Rule.{over, goesWith, legal}
-
--- a slot's load range ("From load ranges to windows")
-pub record Range : Type 0 where
-  pub lowest : ℤ
-  pub highest : ℤ
+use Rattle.rule.specs.declared.Range.{Range}
+use Rattle.rule.specs.declared.Shape.{Shape}
 
 abbrev pub range : (lowest highest : ℤ) → Range
 range lo hi = record { lowest = lo; highest = hi }
@@ -28,8 +25,8 @@ ChosenIn (r ∷ rs) [] = ⊥
 ChosenIn (r ∷ rs) (x ∷ xs) = (r .lowest ≤ℤ x) × (x ≤ℤ r .highest) × ChosenIn rs xs
 
 -- legal for ranges: legal for some choice of loads in them
-abbrev pub LegalFor : (k : ℤ) (len h : ℕ) → List Range → List ℕ → Type 0
-LegalFor k len h ranges marks = (loads : List ℤ) × ChosenIn ranges loads × (legal k len h loads marks ≡ true)
+abbrev pub LegalFor : (k : ℤ) → Shape → List Range → List ℕ → Type 0
+LegalFor k shape ranges marks = (loads : List ℤ) × ChosenIn ranges loads × (legal k shape loads marks ≡ true)
 
 -- what a slot can be: under, over, or both, in which case it is open, in document 01's term ("Words of demand 3")
 pub data Class : Type 0 where

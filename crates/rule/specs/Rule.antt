@@ -1,7 +1,7 @@
 -- The rule of plans, written from document 01. A plan is a list of marks, one byte per slot: 0 uncovered, 1 first slot of a
 -- window, 2 a later over slot of it, 3 a bridge ("A plan as marks"); a bridge, in document 01's term, is an under slot in a
 -- window. Loads and the threshold k are integers: every k is taken ("The rule, by source").
-use Prim.Native.Nat.{ℕ, suc, _≤_}
+use Prim.Native.Nat.{ℕ, suc, _-_, _≤_}
 use mathlib.Core.Bool.{Bool, true, false, cond, not, _&&_, _||_}
 use mathlib.Core.List.{List, [], _∷_}
 use mathlib.Core.Path.{_≡_}
@@ -9,6 +9,7 @@ use lib.Dec.{leb, eqb}
 use lib.IntN.{ℤ}
 use lib.ListN.{length}
 use lib.Signed.{ltZ}
+use Rattle.rule.specs.declared.Shape.{Shape}
 
 -- "From load ranges to windows": a slot is over when its load is greater than k, and under otherwise
 unfoldable pub over : (k load : ℤ) → Bool
@@ -57,26 +58,39 @@ unfoldable pub count : (ℕ → Bool) → List ℕ → ℕ
 count p [] = 0
 count p (m ∷ ms) = cond (p m) (suc (count p ms)) (count p ms)
 
--- a window keeps len and h: it has at most len slots and holds at most h bridges ("The rule, by source")
-unfoldable pub keeps : (len h : ℕ) → List ℕ → Bool
-keeps len h window = leb (length window) len && leb (count (λ m. eqb m 3) window) h
+-- a window keeps its shape: it has at most len slots and holds at most h bridges ("The rule, by source")
+unfoldable pub keeps : Shape → List ℕ → Bool
+keeps shape window = leb (length window) (shape .len) && leb (count (λ m. eqb m 3) window) (shape .h)
 
 unfoldable pub every : (List ℕ → Bool) → List (List ℕ) → Bool
 every p [] = true
 every p (w ∷ ws) = p w && every p ws
 
--- marks are legal when all this holds and each window so drawn keeps len and h. Slot 0 has mark 0 or 1, which is what may
+-- marks are legal when all this holds and each window so drawn keeps the shape. Slot 0 has mark 0 or 1, which is what may
 -- follow a mark 0
-unfoldable pub legalBy : {A : Type 0} → (A → ℕ → Bool) → (len h : ℕ) → List A → List ℕ → Bool
-legalBy goes len h slots marks = agrees goes slots marks && ordered 0 marks && every (keeps len h) (drawn marks)
+unfoldable pub legalBy : {A : Type 0} → (A → ℕ → Bool) → Shape → List A → List ℕ → Bool
+legalBy goes shape slots marks = agrees goes slots marks && ordered 0 marks && every (keeps shape) (drawn marks)
 
 -- the marks that go with a load
 abbrev pub carries : (k load : ℤ) (m : ℕ) → Bool
 carries k load m = goesWith (over k load) m
 
 -- legal for given loads
-abbrev pub legal : (k : ℤ) (len h : ℕ) → List ℤ → List ℕ → Bool
-legal k len h loads marks = legalBy (carries k) len h loads marks
+abbrev pub legal : (k : ℤ) → Shape → List ℤ → List ℕ → Bool
+legal k shape loads marks = legalBy (carries k) shape loads marks
+
+-- a shape by its numbers
+abbrev pub shaped : (len h : ℕ) → Shape
+shaped len h = record { len = len; h = h }
+
+-- one shape is looser than another: its window length and its bridge allowance are no smaller ("Words of demand 3")
+pub record LooserShape (l t : Shape) : Type 0 where
+  pub len : t .len ≤ l .len
+  pub h : t .h ≤ l .h
+
+-- a shape in which a len of 0 counts as 1, for functions that do not check it
+abbrev pub nonzero : Shape → Shape
+nonzero shape = record { len = suc (shape .len - 1); h = shape .h }
 
 -- the window count of marks, and their covered count, bridges included ("The rule, by source")
 unfoldable pub windows : List ℕ → ℕ

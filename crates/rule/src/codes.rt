@@ -1,7 +1,8 @@
 // What a slot can be, as a byte.
 ghost use mathlib.Core.Path.{_≡_};
-ghost use Rattle.rule.specs.Ranges.{classOf, range};
+ghost use Rattle.rule.specs.Ranges.{classOf};
 ghost use Rattle.rule.specs.Codes.{code};
+use crate::Range;
 use crate::over;
 
 // A slot can be under only, over only, or is open. Who reads such a byte takes any other as open (`coded`).
@@ -12,13 +13,13 @@ pub const OVER: u8 = 1;
 pub const EITHER: u8 = 2;
 
 // The class of a slot's range.
-pub fn class_of(k: i32, lowest: i32, highest: i32) -> u8
-    ensures { λ r. ⌜ r ≡ code (classOf k (range lowest highest)) ⌝ }
+pub fn class_of(k: i32, range: Range) -> u8
+    ensures { λ r. ⌜ r ≡ code (classOf k range) ⌝ }
 {
-    if over(k, lowest) {
+    if over(k, range.lowest) {
         return OVER;
     }
-    if over(k, highest) {
+    if over(k, range.highest) {
         return EITHER;
     }
     UNDER

@@ -1,5 +1,5 @@
 // The rule of plans: its definitions in specs/, what follows from them in proofs/. Beside them stands what code above shares: the
-// test of a load, what a slot can be, and where a reading of marks stands.
+// shape of windows, a slot's load range, the test of a load, what a slot can be, and where a reading of marks stands.
 ghost use mathlib.Core.Path.{_≡_};
 ghost use Rattle.rule.specs.Rule.{over as Rule·over};
 
@@ -9,6 +9,18 @@ pub use codes::EITHER;
 pub use codes::OVER;
 pub use codes::UNDER;
 pub use codes::class_of;
+
+// The shape of windows, in document 01's letters: the most slots of a window, and the most bridges in one.
+pub struct Shape {
+    pub len: u16,
+    pub h: u16,
+}
+
+// A slot's load range, both ends included.
+pub struct Range {
+    pub lowest: i32,
+    pub highest: i32,
+}
 
 // Whether a load is over the threshold k.
 pub fn over(k: i32, load: i32) -> bool

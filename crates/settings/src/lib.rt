@@ -1,11 +1,17 @@
 // The settings of a request, and the refusals of lengths and settings, 21 to 26: the table is specs/Refusals.antt.
 ghost use mathlib.Core.Path.{_≡_};
-ghost use Rattle.settings.specs.Refusals.{checked, refusalBy};
-ghost use Rattle.settings.specs.Refusals.{wrongSlots, wrongLength, wrongBridges, wrongCounts};
-use refusals::SettingsRefusal;
+ghost use Rattle.refusals.specs.Answer.{checked};
+ghost use Rattle.settings.specs.Refusals.{refusal, lengthsRefusal, shapeRefusal, settingsRefusal};
+ghost use Rattle.settings.specs.Refusals.{wrongSlots, differs, wrongLength, wrongBridges, wrongCounts};
+use refusals::Checked;
+use refusals::Refusal;
+use rule::Shape;
 
 // The most slots of a plan.
 pub const LIMIT: usize = 64;
+
+// The places before, between and behind so many slots.
+pub const PLACES: usize = LIMIT + 1;
 
 // A range of counts, both ends included.
 pub struct CountRange {
@@ -13,45 +19,74 @@ pub struct CountRange {
     pub most: u16,
 }
 
-// What a request asks besides its loads, in document 01's letters: the threshold k, the most slots of a window, the most
-// bridges of a window, and the ranges of the window count and the covered count.
+// What a request asks besides its loads: the threshold, in document 01's letter, the shape of windows, and the ranges of the
+// window count and the covered count.
 pub struct Settings {
     pub k: i32,
-    pub len: u16,
-    pub h: u16,
+    pub shape: Shape,
     pub windows: CountRange,
     pub covered: CountRange,
 }
 
-// Whether lengths and settings pass, or the first refusal that applies.
-pub enum Checked {
-    Passed,
-    Refused(SettingsRefusal),
+// Meets lengths and settings in their order.
+pub fn check(settings: Settings, n: usize, different: bool) -> Checked
+    ensures { λ r. ⌜ checked r ≡ refusal n different settings ⌝ }
+{
+    let lengths = check_lengths(n, different);
+    if let Checked::Refused(refusal) = lengths {
+        return Checked::Refused(refusal);
+    }
+    check_settings(settings, n)
 }
 
-// Meets the places in their order, for a first slice of n entries; differs says whether another has a different length.
-pub fn check(settings: Settings, n: usize, differs: bool) -> Checked
-    ensures { λ r. ⌜ checked r ≡ refusalBy n differs settings ⌝ }
+// Refusals 21 and 22, for a first slice of n entries; different says whether another has a different length.
+pub fn check_lengths(n: usize, different: bool) -> Checked
+    ensures { λ r. ⌜ checked r ≡ lengthsRefusal n different ⌝ }
 {
     if wrong_slots(n) {
-        return Checked::Refused(SettingsRefusal::FirstLength);
+        return Checked::Refused(Refusal::FirstLength);
     }
-    if differs {
-        return Checked::Refused(SettingsRefusal::OtherLength);
-    }
-    if wrong_length(settings.len, n) {
-        return Checked::Refused(SettingsRefusal::WindowLength);
-    }
-    if wrong_bridges(settings.h, settings.len) {
-        return Checked::Refused(SettingsRefusal::Bridges);
-    }
-    if wrong_counts(settings.windows, n) {
-        return Checked::Refused(SettingsRefusal::WindowCounts);
-    }
-    if wrong_counts(settings.covered, n) {
-        return Checked::Refused(SettingsRefusal::CoveredCounts);
+    if different {
+        return Checked::Refused(Refusal::OtherLength);
     }
     Checked::Passed
+}
+
+// Refusals 23 to 26, for n slots.
+pub fn check_settings(settings: Settings, n: usize) -> Checked
+    ensures { λ r. ⌜ checked r ≡ settingsRefusal n settings ⌝ }
+{
+    let shape = check_shape(settings.shape, n);
+    if let Checked::Refused(refusal) = shape {
+        return Checked::Refused(refusal);
+    }
+    if wrong_counts(settings.windows, n) {
+        return Checked::Refused(Refusal::WindowCounts);
+    }
+    if wrong_counts(settings.covered, n) {
+        return Checked::Refused(Refusal::CoveredCounts);
+    }
+    Checked::Passed
+}
+
+// Refusals 23 and 24.
+pub fn check_shape(shape: Shape, n: usize) -> Checked
+    ensures { λ r. ⌜ checked r ≡ shapeRefusal n shape ⌝ }
+{
+    if wrong_length(shape, n) {
+        return Checked::Refused(Refusal::WindowLength);
+    }
+    if wrong_bridges(shape) {
+        return Checked::Refused(Refusal::Bridges);
+    }
+    Checked::Passed
+}
+
+// Whether another slice has a different length than the first, of n entries.
+pub fn differ(n: usize, other: usize) -> bool
+    ensures { λ r. ⌜ r ≡ differs n other ⌝ }
+{
+    other != n
 }
 
 // The tests of the rows, from 21 on.
@@ -61,16 +96,16 @@ fn wrong_slots(n: usize) -> bool
     n == 0 || n > LIMIT
 }
 
-fn wrong_length(len: u16, n: usize) -> bool
-    ensures { λ r. ⌜ r ≡ wrongLength len n ⌝ }
+fn wrong_length(shape: Shape, n: usize) -> bool
+    ensures { λ r. ⌜ r ≡ wrongLength shape n ⌝ }
 {
-    len == 0 || len as usize > n
+    shape.len == 0 || shape.len as usize > n
 }
 
-fn wrong_bridges(h: u16, len: u16) -> bool
-    ensures { λ r. ⌜ r ≡ wrongBridges h len ⌝ }
+fn wrong_bridges(shape: Shape) -> bool
+    ensures { λ r. ⌜ r ≡ wrongBridges shape ⌝ }
 {
-    h > 0 && h as usize + 1 >= len as usize
+    shape.h > 0 && shape.h as usize + 1 >= shape.len as usize
 }
 
 fn wrong_counts(range: CountRange, n: usize) -> bool

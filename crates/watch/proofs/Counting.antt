@@ -1,5 +1,5 @@
 -- A watch opens the least number of windows: never more than a plan has, and some plan has as many.
-use Prim.Native.Nat.{ℕ, zero, suc, pred, _+_, _≤_}
+use Prim.Native.Nat.{ℕ, zero, suc, pred, _+_, _-_, _≤_}
 use native.Mathlib.Nat.{le-refl}
 use native.Mathlib.Numerals.{sub-one}
 use native.Mathlib.Omega.{arith}
@@ -12,8 +12,10 @@ use lib.IntN.{ℤ}
 use lib.Signed.{_<ℤ_, _≤ℤ_}
 use Rattle.facts.proofs.Integers.{side}
 use Rattle.rule.proofs.Loads.{lt→over, le→under, carried-over, carried-under, carry-over, carry-under}
-use Rattle.rule.proofs.Plan.{State, out, on, PlanBy, done, skip, opens, close, more, bridges, legal→plan, plan→legal}
+use Rattle.rule.proofs.Plan.{State, out, on, PlanBy, done, skip, opens, close, more, bridges}
+use Rattle.rule.proofs.Plan.{legal→plan, plan→legal, nonzero-same}
 use Rattle.rule.specs.Rule.{over, goesWith, carries, count, windows}
+use Rattle.rule.specs.declared.Shape.{Shape}
 use Rattle.watch.proofs.Reaching.{accepted-numbers}
 use Rattle.watch.specs.Promise.{Least, CaseL}
 use Rattle.watch.specs.States.{begun, afterOver, afterUnder, after, led}
@@ -25,20 +27,20 @@ left zero b = 0
 left (suc r) zero = 0
 left (suc r) (suc b) = r
 
-module _ (k : ℤ) (room h : ℕ) where
+module _ (k : ℤ) (shape : Shape) where
   -- a watch that opened n windows, with r slots left to the living one, and b bridges if r is not 0
   data Stands : (n r b : ℕ) → Watch → Type 0 where
     stands : {t n r b : ℕ} →
         Stands n r b
-        (record { k = k; len = suc room; h = h; taken = t; windows = n; room = r; spare = cond (eqb r 0) 0 b })
+        (record { k = k; len = shape .len; h = shape .h; taken = t; windows = n; room = r; spare = cond (eqb r 0) 0 b })
 
-  fresh : Stands 0 0 0 (begun k (suc room) h)
+  fresh : Stands 0 0 0 (begun k shape)
   fresh = stands
 
   -- where it stands behind a load
-  over-opens : {n b : ℕ} {w : Watch} {x : ℤ} → Stands n 0 b w → k <ℤ x → Stands (n + 1) room h (after w x)
+  over-opens : {n b : ℕ} {w : Watch} {x : ℤ} → Stands n 0 b w → k <ℤ x → Stands (n + 1) (shape .len - 1) (shape .h) (after w x)
   unfolding after afterOver
-  over-opens stands l = simp (lt→over l, sub-one) stands
+  over-opens stands l = simp (lt→over l) stands
 
   over-uses : {n r b : ℕ} {w : Watch} {x : ℤ} → Stands n (suc r) b w → k <ℤ x → Stands n r b (after w x)
   unfolding after afterOver
@@ -54,16 +56,16 @@ module _ (k : ℤ) (room h : ℕ) where
   data Beside (r b : ℕ) : (d : ℕ) → State → Type 0 where
     outside : Beside r b 0 (out 0)
     level : {c : Bool} {r′ b′ : ℕ} → r′ ≤ r → b′ ≤ b → Beside r b 0 (on c r′ b′)
-    ahead : {c : Bool} {r′ b′ : ℕ} → r′ ≤ room → b′ ≤ h → Beside r b 1 (on c r′ b′)
+    ahead : {c : Bool} {r′ b′ : ℕ} → r′ ≤ shape .len - 1 → b′ ≤ shape .h → Beside r b 1 (on c r′ b′)
 
   -- it opens no more windows than the plan has, apart from d
   floor : {n d : ℕ} {w : Watch} {st : State} {xs : List ℤ} {ms : List ℕ} →
-      PlanBy (carries k) room h st xs ms → (r b : ℕ) → Stands n r b w → Beside r b d st → led w xs .windows ≤ n + windows ms + d
+      PlanBy (carries k) shape st xs ms → (r b : ℕ) → Stands n r b w → Beside r b d st → led w xs .windows ≤ n + windows ms + d
   unfolding led goesWith windows count
   floor done r b stands outside = omega arith
   floor (skip m p) r b s outside = floor p _ _ (under r b s (carried-under 0 refl m)) outside
   floor (opens m p) zero b s outside =
-      let q = floor p room h (over-opens s (carried-over 1 refl m)) (level (le-refl _) (le-refl _)) in
+      let q = floor p _ _ (over-opens s (carried-over 1 refl m)) (level (le-refl _) (le-refl _)) in
       omega (arith, q)
   floor (opens m p) (suc r) b s outside =
       let q = floor p r b (over-uses s (carried-over 1 refl m)) (ahead (le-refl _) (le-refl _)) in
@@ -73,7 +75,7 @@ module _ (k : ℤ) (room h : ℕ) where
   floor (more m p) zero b s (level e f) = absurd (omega arith)
   floor (more m p) (suc r) b s (level e f) = floor p r b (over-uses s (carried-over 2 refl m)) (level (omega arith) f)
   floor (more m p) zero b s (ahead e f) =
-      let q = floor p room h (over-opens s (carried-over 2 refl m)) (level (omega arith) f) in
+      let q = floor p _ _ (over-opens s (carried-over 2 refl m)) (level (omega arith) f) in
       omega (arith, q)
   floor (more m p) (suc r) b s (ahead e f) = floor p r b (over-uses s (carried-over 2 refl m)) (ahead (omega arith) f)
   floor (bridges m p) zero b s (level e f) = absurd (omega arith)
@@ -85,8 +87,8 @@ module _ (k : ℤ) (room h : ℕ) where
 
   -- an under slot is a bridge if the window goes on behind it, and uncovered if it closes
   under-slot : {x : ℤ} {xs : List ℤ} {ms : List ℕ} (r b : ℕ) → x ≤ℤ k →
-      PlanBy (carries k) room h (on true (left r b) (pred b)) xs ms →
-      (m : ℕ) × PlanBy (carries k) room h (on true r b) (x ∷ xs) (m ∷ ms) × (windows (m ∷ ms) ≡ windows ms)
+      PlanBy (carries k) shape (on true (left r b) (pred b)) xs ms →
+      (m : ℕ) × PlanBy (carries k) shape (on true r b) (x ∷ xs) (m ∷ ms) × (windows (m ∷ ms) ≡ windows ms)
   unfolding goesWith windows count
   under-slot zero b l (close p) = (0, close (skip (carry-under 0 refl l) p), refl)
   under-slot (suc r) zero l (close p) = (0, close (skip (carry-under 0 refl l) p), refl)
@@ -97,7 +99,7 @@ module _ (k : ℤ) (room h : ℕ) where
   -- a plan from where the watch stands, with as many windows
   record Met (n r b : ℕ) (w : Watch) (xs : List ℤ) : Type 0 where
     marks : List ℕ
-    plan : PlanBy (carries k) room h (on true r b) xs marks
+    plan : PlanBy (carries k) shape (on true r b) xs marks
     same : n + windows marks ≡ led w xs .windows
 
   -- wherever a watch stands, there is one
@@ -124,18 +126,22 @@ module _ (k : ℤ) (room h : ℕ) where
   met (x ∷ xs) n r b w s = one-more (met xs) (side k x) n r b w s
 
   -- a window without a slot left has to close
-  closed : {b : ℕ} {xs : List ℤ} {ms : List ℕ} → PlanBy (carries k) room h (on true 0 b) xs ms →
-      PlanBy (carries k) room h (out 0) xs ms
+  closed : {b : ℕ} {xs : List ℤ} {ms : List ℕ} → PlanBy (carries k) shape (on true 0 b) xs ms →
+      PlanBy (carries k) shape (out 0) xs ms
   closed (close p) = p
 
 pub least : Least
-least k zero h loads e = absurd (omega (arith, accepted-numbers 0 h e .0))
-least k (suc room) h loads e =
-    let f = met k room h loads 0 0 0 _ (fresh k room h) in
+least k shape loads e =
+    let f = met k shape loads 0 0 0 _ (fresh k shape) in
+    let same = nonzero-same shape (accepted-numbers shape e .0) in
     record {
-      met = (f .marks, plan→legal (carries k) room h loads (f .marks) (closed k room h (f .plan)), omega (arith, f .same));
+      met = (
+        f .marks,
+        rw same at (plan→legal (carries k) shape loads (f .marks) (closed k shape (f .plan))),
+        omega (arith, f .same),
+      );
       least = λ ms l.
-          let q = floor k room h (legal→plan (carries k) room h loads ms l) 0 0 (fresh k room h) outside in
+          let q = floor k shape (legal→plan (carries k) shape loads ms (rw same l)) 0 0 (fresh k shape) outside in
           omega (arith, q);
     }
 

@@ -1,5 +1,5 @@
 -- States and the loads that lead to them: what one load does to a state, and one load behind others.
-use Prim.Native.Nat.{ℕ, _+_, _-_, _≤_, _<_}
+use Prim.Native.Nat.{_+_, _-_, _≤_, _<_}
 use native.Mathlib.Omega.{arith}
 use mathlib.Core.Bool.{true, false}
 use mathlib.Core.List.{List, [], _∷_, _++_}
@@ -12,6 +12,7 @@ use mir.Syntax.{w32}
 use mir.Val.{SFits}
 use Rattle.facts.proofs.Rules.{either-way}
 use Rattle.rule.specs.Rule.{over}
+use Rattle.rule.specs.declared.Shape.{Shape}
 use Rattle.watch.specs.States.{begun, moved, afterOver, afterUnder, after, led, most, Loads, Leads}
 use Rattle.watch.specs.declared.Watch.{Watch}
 
@@ -35,22 +36,22 @@ led-taken [] w = omega arith
 led-taken (x ∷ xs) w = omega (arith, led-taken xs (after w x), after-taken w x)
 
 -- the slots taken are the loads
-pub taken-is : {k : ℤ} {len h : ℕ} {loads : List ℤ} {w : Watch} → Leads k len h loads w → w .taken ≡ length loads
-taken-is {k} {len} {h} {loads} l = rw (← l .state) (omega (arith, led-taken loads (begun k len h)))
+pub taken-is : {k : ℤ} {shape : Shape} {loads : List ℤ} {w : Watch} → Leads k shape loads w → w .taken ≡ length loads
+taken-is {k} {shape} {loads} l = rw (← l .state) (omega (arith, led-taken loads (begun k shape)))
 
 fit-behind : (loads : List ℤ) {x : ℤ} → SFits w32 x → Loads loads → Loads (loads ++ x ∷ [])
 fit-behind [] f all = (f, tt)
 fit-behind (y ∷ ys) f (one, more) = (one, fit-behind ys f more)
 
 -- one load more where the limit leaves room
-pub leads-on : {k : ℤ} {len h : ℕ} {loads : List ℤ} {w : Watch} (x : ℤ) → SFits w32 x → length loads < most →
-    Leads k len h loads w → Leads k len h (loads ++ x ∷ []) (after w x)
-leads-on {k} {len} {h} {loads} x f few l =
+pub leads-on : {k : ℤ} {shape : Shape} {loads : List ℤ} {w : Watch} (x : ℤ) → SFits w32 x → length loads < most →
+    Leads k shape loads w → Leads k shape (loads ++ x ∷ []) (after w x)
+leads-on {k} {shape} {loads} x f few l =
     record {
       accepted = l .accepted;
       fit = fit-behind loads f (l .fit);
       few = omega (arith, length-append loads (x ∷ []));
-      state = led-behind (begun k len h) loads x ∙ ap (λ v. after v x) (l .state);
+      state = led-behind (begun k shape) loads x ∙ ap (λ v. after v x) (l .state);
     }
 
 -- what a slot does to a state, by the load's side and what is left to the living window

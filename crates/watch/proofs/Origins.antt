@@ -17,7 +17,7 @@ use Rattle.rule.proofs.Loads.{le→under}
 use Rattle.rule.specs.Rule.{over}
 use Rattle.watch.proofs.Leading.{taken-is, leads-on, opens, goes-on, ends, bridges, behind-over, behind-under}
 use Rattle.watch.proofs.Reaching.{accepted-numbers, and-last, threshold}
-use Rattle.watch.specs.States.{begun, after, led, Leads, Reached}
+use Rattle.watch.specs.States.{shapeOf, begun, after, led, Leads, Reached}
 use Rattle.watch.specs.Tested.{highest, shortest, Idle, Alive, Sound}
 use Rattle.watch.specs.declared.Watch.{Watch}
 
@@ -32,11 +32,11 @@ own w (t, n, r, b) = rw (t, n, r, b)
 starts : (w : Watch) → w .taken ≡ 0 → Sound w → Reached w
 unfolding led
 starts w e s =
-    let sized : 1 ≤ shortest (w .len) (w .h) = omega (arith, accepted-numbers (w .len) (w .h) (s .accepted) .0) in
+    let sized : 1 ≤ shortest (shapeOf w) = omega (arith, accepted-numbers (shapeOf w) (s .accepted) .0) in
     let some = le-mul-of-pos-right (w .windows) sized in
-    let state : begun (w .k) (w .len) (w .h) ≡ w =
+    let state : begun (w .k) (shapeOf w) ≡ w =
     ⊎-elim (λ (i : Idle w). own w (omega arith)) (λ (a : Alive w). absurd (omega arith)) (s .lives) in
-    (w .k, w .len, w .h, [], record { accepted = s .accepted; fit = tt; few = omega arith; state = state })
+    (w .k, shapeOf w, [], record { accepted = s .accepted; fit = tt; few = omega arith; state = state })
 
 highest-fits : SFits w32 highest
 highest-fits = record { sfits = omega arith }
@@ -47,7 +47,7 @@ Earlier t w = (n r b : ℕ) → Sound (with w t n r b) → Reached (with w t n r
 
 module _ {t : ℕ} {w : Watch} (e : w .taken ≡ suc t) (f : SFits w32 (w .k)) (s : Sound w) (earlier : Earlier t w) where
   abbrev least : ℕ
-  least = shortest (w .len) (w .h)
+  least = shortest (shapeOf w)
 
   abbrev before : (windows room spare : ℕ) → Watch
   before n r b = with w t n r b
@@ -63,9 +63,9 @@ module _ {t : ℕ} {w : Watch} (e : w .taken ≡ suc t) (f : SFits w32 (w .k)) (
         opens = ⊎-elim (λ none. inl (omega (arith, none))) inr (s .opens);
         lives = lives;
       } in
-      let (k, len, h, loads, l) = earlier n r b sound in
+      let (k, shape, loads, l) = earlier n r b sound in
       let on = leads-on x fits (omega (arith, taken-is l, s .few)) l in
-      (k, len, h, loads ++ x ∷ [], subst (Leads k len h (loads ++ x ∷ [])) is on)
+      (k, shape, loads ++ x ∷ [], subst (Leads k shape (loads ++ x ∷ [])) is on)
 
   -- the state behind a load is this one: bridges are left to a living window only
   lands : (n r b : ℕ) → (n ≡ w .windows) × (r ≡ w .room) × (1 ≤ w .room → b ≡ w .spare) →
@@ -104,7 +104,7 @@ module _ {t : ℕ} {w : Watch} (e : w .taken ≡ suc t) (f : SFits w32 (w .k)) (
         latest all =
             let some = lt-of-mul-lt-mul-right least {m = 0} {n = w .windows} (omega arith) in
             let all = sym (and-last (w .windows) least some) ∙ all ∙ e in
-            let (sized, few, wide) = accepted-numbers (w .len) (w .h) (s .accepted) in
+            let (sized, few, wide) = accepted-numbers (shapeOf w) (s .accepted) in
             ⊎-elim (λ one. opened some (omega arith) (omega arith) (omega arith)) (λ two. ended some all (wide two))
             (eq-or-lt-of-le sized)
 

@@ -17,24 +17,26 @@ use mir.Val.{SFits}
 use Rattle.rule.proofs.Loads.{rise}
 use Rattle.refusals.proofs.Table.{clear}
 use Rattle.settings.proofs.Passing.{lengths, few-bridges}
-use Rattle.settings.specs.Refusals.{limit}
+use Rattle.settings.specs.Refusals.{limit, shapeRefusal}
 use Rattle.rule.specs.Rule.{over}
+use Rattle.rule.specs.declared.Shape.{Shape}
 use Rattle.watch.proofs.Leading.{after-taken, opens, goes-on, ends, bridges, behind-over, behind-under}
-use Rattle.watch.specs.States.{startRefusal, begun, moved, after, led, most, Loads, Reached}
+use Rattle.watch.specs.States.{shapeOf, startRefusal, begun, moved, after, led, most, Loads, Reached}
 use Rattle.watch.specs.Tested.{highest, shortest, Idle, Alive, Sound}
 use Rattle.watch.specs.declared.Watch.{Watch}
 
 -- what an accepted start says of its numbers
-pub accepted-numbers : (len h : ℕ) → startRefusal len h ≡ none → (1 ≤ len) × (len ≤ limit) × (2 ≤ len → h + 2 ≤ len)
-unfolding startRefusal
-accepted-numbers len h e =
+pub accepted-numbers : (shape : Shape) → startRefusal shape ≡ none →
+    (1 ≤ shape .len) × (shape .len ≤ limit) × (2 ≤ shape .len → shape .h + 2 ≤ shape .len)
+unfolding shapeRefusal
+accepted-numbers shape e =
     let (length, e) = clear _ _ _ e in
     let (bridges, e) = clear _ _ _ e in
-    let (some, few) = lengths len limit .0 length in
-    (some, few, few-bridges len h bridges)
+    let (some, few) = lengths shape limit .0 length in
+    (some, few, few-bridges shape bridges)
 
-sound-begun : (k : ℤ) (len h : ℕ) → startRefusal len h ≡ none → Sound (begun k len h)
-sound-begun k len h e = record { accepted = e; few = omega arith; opens = inl refl; lives = inl (omega arith) }
+sound-begun : (k : ℤ) (shape : Shape) → startRefusal shape ≡ none → Sound (begun k shape)
+sound-begun k shape e = record { accepted = e; few = omega arith; opens = inl refl; lives = inl (omega arith) }
 
 -- of the windows opened, the last one by itself
 pub and-last : (n m : ℕ) → 1 ≤ n → n * m ≡ (n - 1) * m + m
@@ -55,7 +57,7 @@ threshold s some = ⊎-elim (λ e. absurd (omega (arith, e))) (λ o. o) (s .open
 
 module _ {w : Watch} (s : Sound w) (few : w .taken < most) where
   abbrev least : ℕ
-  least = shortest (w .len) (w .h)
+  least = shortest (shapeOf w)
 
   -- no window is alive behind the slot
   ended : (n : ℕ) → (n ≡ 0) ⊎ (over (w .k) highest ≡ true) → n * least ≤ w .taken + 1 → Sound (moved w n 0 0)
@@ -76,7 +78,7 @@ module _ {w : Watch} (s : Sound w) (few : w .taken < most) where
     -- an over load opens a window where none is alive
     opening : over (w .k) x ≡ true → over (w .k) highest ≡ true → Idle w → Sound (after w x)
     opening e o i =
-        let (some, few, more) = accepted-numbers (w .len) (w .h) (s .accepted) in
+        let (some, few, more) = accepted-numbers (shapeOf w) (s .accepted) in
         let before : w .windows + 1 - 1 ≡ w .windows = omega arith in
         rw (behind-over w x e, opens w (i .slots)) (used (w .windows + 1) (w .len - 1) (w .h) o (rw before (omega (arith, i .each))))
 
@@ -119,5 +121,5 @@ sound-led (x ∷ xs) {w} (one, more) few s =
     sound-led xs more (omega (arith, after-taken w x)) (sound-after s (omega arith) x one)
 
 pub reached→sound : (w : Watch) → Reached w → Sound w
-reached→sound w (k, len, h, loads, l) =
-    subst Sound (l .state) (sound-led loads (l .fit) (omega (arith, l .few)) (sound-begun k len h (l .accepted)))
+reached→sound w (k, shape, loads, l) =
+    subst Sound (l .state) (sound-led loads (l .fit) (omega (arith, l .few)) (sound-begun k shape (l .accepted)))

@@ -12,9 +12,10 @@ use mir.Syntax.{w32}
 use mir.Val.{SFits}
 use Rattle.settings.specs.Refusals.{limit}
 use Rattle.rule.specs.Rule.{over}
+use Rattle.rule.specs.declared.Shape.{Shape}
 use Rattle.watch.proofs.Origins.{sound→reached}
 use Rattle.watch.proofs.Reaching.{accepted-numbers, reached→sound}
-use Rattle.watch.specs.States.{startRefusal, most, Reached}
+use Rattle.watch.specs.States.{shapeOf, startRefusal, most, Reached}
 use Rattle.watch.specs.Tested.{highest, shortest, Tallied, Idle, Alive, Sound, Ready}
 use Rattle.watch.specs.declared.Watch.{Watch}
 
@@ -25,17 +26,17 @@ pub compares : (a b : ℕ) {P : Type 0} → (a ≤ b → P) → (P → a ≤ b) 
 compares a b f g = (λ e. f (leb-true a b e), λ p. le-leb a b (g p))
 
 -- where an over slot does not fill a window, it takes all bridges and one under slot more to end it
-pub by-bridges : (len h : ℕ) → startRefusal len h ≡ none → (len ≡ 1 → ⊥) → h + 2 ≡ shortest len h
-by-bridges len h e many = let (some, few, fewer) = accepted-numbers len h e in omega (arith, fewer (omega (arith, many)))
+pub by-bridges : (shape : Shape) → startRefusal shape ≡ none → (shape .len ≡ 1 → ⊥) → shape .h + 2 ≡ shortest shape
+by-bridges shape e many = let (some, few, fewer) = accepted-numbers shape e in omega (arith, fewer (omega (arith, many)))
 
 -- the sums that a test makes are small
-pub small : {w : Watch} → Tallied w → (n : ℕ) → n ≤ w .windows → n * shortest (w .len) (w .h) ≤ most * limit
-small t n few = mul-le-mul {n₂ = most} {m₂ = limit} (omega arith) (omega (arith, accepted-numbers _ _ (t .accepted) .1))
+pub small : {w : Watch} → Tallied w → (n : ℕ) → n ≤ w .windows → n * shortest (shapeOf w) ≤ most * limit
+small t n few = mul-le-mul {n₂ = most} {m₂ = limit} (omega arith) (omega (arith, accepted-numbers _ (t .accepted) .1))
 
 -- no more windows were opened than slots taken
 pub counted : {w : Watch} → Sound w → w .windows ≤ w .taken
 counted {w} s =
-    let some : 1 ≤ shortest (w .len) (w .h) = omega (arith, accepted-numbers _ _ (s .accepted) .0) in
+    let some : 1 ≤ shortest (shapeOf w) = omega (arith, accepted-numbers _ (s .accepted) .0) in
     ⊎-elim
     (λ i. omega (arith, le-mul-of-pos-right (w .windows) some, i .each))
     (λ a. omega (arith, le-mul-of-pos-right (w .windows - 1) some, a))
@@ -43,7 +44,7 @@ counted {w} s =
 
 pub ready : {w : Watch} → Sound w → w .taken < most → Ready w
 ready {w} s more =
-    record { sized = accepted-numbers _ _ (s .accepted) .0; counted = counted s; more = more; living = living (s .lives) }
+    record { sized = accepted-numbers _ (s .accepted) .0; counted = counted s; more = more; living = living (s .lives) }
   where
     living : Idle w ⊎ Alive w → 1 ≤ w .spare → 1 ≤ w .room
     living (inl i) e = absurd (omega arith)

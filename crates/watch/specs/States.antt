@@ -9,18 +9,22 @@ use lib.IntN.{ℤ}
 use lib.ListN.{length}
 use mir.Syntax.{w32}
 use mir.Val.{SFits}
-use Rattle.refusals.specs.Table.{row, first}
-use Rattle.settings.specs.Refusals.{limit, wrongLength, wrongBridges}
-use Rattle.rule.specs.Rule.{over}
+use Rattle.refusals.specs.declared.Refusal.{Refusal}
+use Rattle.settings.specs.Refusals.{limit, shapeRefusal}
+use Rattle.rule.specs.Rule.{over, shaped}
+use Rattle.rule.specs.declared.Shape.{Shape}
 use Rattle.watch.specs.declared.Watch.{Watch}
 
 -- "Where each refusal is checked", the watch's rows of the settings: 23 with the limit in place of n, and 24
-unfoldable pub startRefusal : (len h : ℕ) → Option ℕ
-startRefusal len h = first (row 23 (wrongLength len limit) ∷ row 24 (wrongBridges h len) ∷ [])
+abbrev pub startRefusal : Shape → Option Refusal
+startRefusal shape = shapeRefusal limit shape
+
+abbrev pub shapeOf : Watch → Shape
+shapeOf w = shaped (w .len) (w .h)
 
 -- an accepted start: no slot taken, no window opened, none alive
-abbrev pub begun : (k : ℤ) (len h : ℕ) → Watch
-begun k len h = record { k = k; len = len; h = h; taken = 0; windows = 0; room = 0; spare = 0 }
+abbrev pub begun : (k : ℤ) → Shape → Watch
+begun k shape = record { k = k; len = shape .len; h = shape .h; taken = 0; windows = 0; room = 0; spare = 0 }
 
 -- one slot more, with this many windows opened so far and this much left to the living one, which lives while it has slots left
 abbrev pub moved : Watch → (windows room spare : ℕ) → Watch
@@ -67,12 +71,12 @@ Loads [] = Unit
 Loads (x ∷ xs) = SFits w32 x × Loads xs
 
 -- an accepted start and these loads, at most as many as a watch takes, lead to the state w
-pub record Leads (k : ℤ) (len h : ℕ) (loads : List ℤ) (w : Watch) : Type 0 where
-  pub accepted : startRefusal len h ≡ none
+pub record Leads (k : ℤ) (shape : Shape) (loads : List ℤ) (w : Watch) : Type 0 where
+  pub accepted : startRefusal shape ≡ none
   pub fit : Loads loads
   pub few : length loads ≤ most
-  pub state : led (begun k len h) loads ≡ w
+  pub state : led (begun k shape) loads ≡ w
 
 -- some accepted start and some loads lead to the state w
 abbrev pub Reached : Watch → Type 0
-Reached w = (k : ℤ) × (len : ℕ) × (h : ℕ) × (loads : List ℤ) × Leads k len h loads w
+Reached w = (k : ℤ) × (shape : Shape) × (loads : List ℤ) × Leads k shape loads w

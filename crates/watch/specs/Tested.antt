@@ -7,7 +7,8 @@ use mathlib.Core.Option.{none}
 use mathlib.Core.Path.{_≡_}
 use lib.IntN.{ℤ, pos}
 use Rattle.rule.specs.Rule.{over}
-use Rattle.watch.specs.States.{startRefusal, most}
+use Rattle.rule.specs.declared.Shape.{Shape}
+use Rattle.watch.specs.States.{shapeOf, startRefusal, most}
 use Rattle.watch.specs.declared.Watch.{Watch}
 
 -- the highest load: with it as the threshold no load is over, and no window opens
@@ -16,12 +17,12 @@ highest = pos 2147483647
 
 -- the fewest slots from a window's opening to the next one's: the window is full, or one under load more than it has bridges has
 -- ended it
-abbrev pub shortest : (len h : ℕ) → ℕ
-shortest len h = min len (h + 2)
+abbrev pub shortest : Shape → ℕ
+shortest shape = min (shape .len) (shape .h + 2)
 
 -- what the sums below rest on: the settings are accepted, and no more windows were opened than slots taken
 pub record Tallied (w : Watch) : Type 0 where
-  pub accepted : startRefusal (w .len) (w .h) ≡ none
+  pub accepted : startRefusal (shapeOf w) ≡ none
   pub counted : w .windows ≤ w .taken
   pub few : w .taken ≤ most
 
@@ -29,7 +30,7 @@ pub record Tallied (w : Watch) : Type 0 where
 pub record Idle (w : Watch) : Type 0 where
   pub slots : w .room ≡ 0
   pub bridges : w .spare ≡ 0
-  pub each : w .windows * shortest (w .len) (w .h) ≤ w .taken
+  pub each : w .windows * shortest (shapeOf w) ≤ w .taken
 
 -- a window is alive; its first slot was over, and the slots taken leave as much for each window before it
 pub record Alive (w : Watch) : Type 0 where
@@ -37,10 +38,10 @@ pub record Alive (w : Watch) : Type 0 where
   pub slots : (1 ≤ w .room) × (w .room < w .len)
   pub bridges : w .spare ≤ w .h
   pub used : (w .h - w .spare) < (w .len - w .room)
-  pub each : (w .windows - 1) * shortest (w .len) (w .h) + (w .len - w .room) ≤ w .taken
+  pub each : (w .windows - 1) * shortest (shapeOf w) + (w .len - w .room) ≤ w .taken
 
 pub record Sound (w : Watch) : Type 0 where
-  pub accepted : startRefusal (w .len) (w .h) ≡ none
+  pub accepted : startRefusal (shapeOf w) ≡ none
   pub few : w .taken ≤ most
   pub opens : (w .windows ≡ 0) ⊎ (over (w .k) highest ≡ true)
   pub lives : Idle w ⊎ Alive w

@@ -5,7 +5,6 @@ mod run;
 mod start;
 mod step;
 
-pub use run::Ended;
 pub use run::Ran;
 pub use start::Started;
 pub use step::Answer;

@@ -6,12 +6,14 @@ ghost use mathlib.Core.Option.{none};
 ghost use Prim.Native.Nat.{_+_, _*_, _≤_, _<_};
 ghost use Rattle.settings.specs.Refusals.{limit};
 ghost use Rattle.rule.specs.Rule.{over as Rule·over};
-ghost use Rattle.watch.specs.States.{startRefusal, most, Reached};
+ghost use Rattle.watch.specs.States.{shapeOf, startRefusal, most, Reached};
 ghost use Rattle.watch.specs.Tested.{highest, shortest as Tested·shortest, Tallied, Idle, Alive};
 use crate::Watch;
-use crate::start::check_settings;
+use refusals::Checked;
+use rule::Shape;
 use rule::over;
-use settings::Checked;
+use settings::LIMIT;
+use settings::check_shape;
 
 // The most slots that a watch takes.
 pub(crate) const MOST: u32 = 1000000;
@@ -23,7 +25,7 @@ impl Watch {
     pub(crate) fn reached(self) -> bool
         ensures { λ r. ⌜ (r ≡ true) ↔ Reached self ⌝ }
     {
-        let checked = check_settings(self.k, self.len, self.h);
+        let checked = check_shape(self.shape(), LIMIT);
         if let Checked::Refused(_) = checked {
             return false;
         }
@@ -40,6 +42,15 @@ impl Watch {
             return self.idle();
         }
         self.alive()
+    }
+
+    fn shape(self) -> Shape
+        ensures { λ r. ⌜ r ≡ shapeOf self ⌝ }
+    {
+        Shape {
+            len: self.len,
+            h: self.h,
+        }
     }
 
     // A window opens at an over load.
@@ -88,8 +99,8 @@ impl Watch {
 
     // The least number of slots from a window's opening to the next one's.
     fn shortest(self) -> u32
-        requires { ⌜ startRefusal (self .len) (self .h) ≡ none ⌝ }
-        ensures { λ r. ⌜ r ≡ Tested·shortest (self .len) (self .h) ⌝ }
+        requires { ⌜ startRefusal (shapeOf self) ≡ none ⌝ }
+        ensures { λ r. ⌜ r ≡ Tested·shortest (shapeOf self) ⌝ }
     {
         if self.len == 1 { 1 } else { self.h as u32 + 2 }
     }

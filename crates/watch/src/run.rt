@@ -1,26 +1,21 @@
 // Many loads.
-ghost use Rattle.watch.specs.Promise.{Runs, refusal};
+ghost use Rattle.refusals.specs.Answer.{checked};
+ghost use Rattle.watch.specs.Promise.{Runs};
 use crate::Watch;
 use crate::step::Answer;
-use refusals::StepRefusal;
+use refusals::Checked;
 
-// Whether all loads were taken, or why the first that was not is refused.
-pub enum Ended {
-    All,
-    Stopped(StepRefusal),
-}
-
-// The state behind the loads that were taken, and how many these are.
+// The state behind the loads that were taken, how many these are, and whether that is all of them, or why the next is refused.
 pub struct Ran {
     pub watch: Watch,
     pub taken: usize,
-    pub ended: Ended,
+    pub ended: Checked,
 }
 
 impl Watch {
     // Steps load by load, up to the first that is refused.
     pub fn run(self, loads: &[i32]) -> Ran
-        ensures { λ r. ⌜ Runs self (now (loads .entry)) (r .watch) (r .taken) (refusal (r .ended)) ⌝ }
+        ensures { λ r. ⌜ Runs self (now (loads .entry)) (r .watch) (r .taken) (checked (r .ended)) ⌝ }
     {
         let mut watch = self;
         let mut i = 0;
@@ -32,7 +27,7 @@ impl Watch {
                 return Ran {
                     watch,
                     taken: i,
-                    ended: Ended::Stopped(refusal),
+                    ended: Checked::Refused(refusal),
                 };
             }
             i += 1;
@@ -40,7 +35,7 @@ impl Watch {
         Ran {
             watch,
             taken: i,
-            ended: Ended::All,
+            ended: Checked::Passed,
         }
     }
 }

@@ -7,13 +7,13 @@ ghost use Rattle.watch.specs.declared.step.Answer.the-variants.{Refused}
 ghost use Rattle.watch.specs.Promise.{Steps};
 use crate::Watch;
 use crate::reached::MOST;
-use refusals::StepRefusal;
+use refusals::Refusal;
 use rule::over;
 
 // The load is taken, and opened a window or not; or the step is refused.
 pub enum Answer {
     Taken { opened: bool },
-    Refused(StepRefusal),
+    Refused(Refusal),
 }
 
 // The state that replaces the one given, and the answer.
@@ -28,10 +28,10 @@ impl Watch {
         ensures { λ r. ⌜ Steps self load r ⌝ }
     {
         if !self.reached() {
-            return refused(self, StepRefusal::Unreached);
+            return refused(self, Refusal::Unreached);
         }
         if self.taken == MOST {
-            return refused(self, StepRefusal::Full);
+            return refused(self, Refusal::Full);
         }
         let watch = self.after(load);
         Stepped {
@@ -92,7 +92,7 @@ impl Watch {
     }
 }
 
-fn refused(watch: Watch, refusal: StepRefusal) -> Stepped
+fn refused(watch: Watch, refusal: Refusal) -> Stepped
     ensures { λ r. ⌜ (r .watch ≡ watch) × (r .answer ≡ Refused refusal) ⌝ }
 {
     Stepped {

@@ -10,35 +10,31 @@ enum-known-answer c = search needs
 number-requires : tie.Need-number-requires
 number-requires c κs = search needs
 
+slot-requires : tie.Need-slot-requires
+slot-requires c κs = search needs
+
 without-counts-requires : tie.Need-without-counts-requires
 without-counts-requires c κs = search needs
-
-enum-known-answer-2 : tie.Need-enum-known-answer-2
-enum-known-answer-2 c = search needs
-
-without-counts-requires-2 : tie.Need-without-counts-requires-2
-without-counts-requires-2 c κs = search needs
 
 enum-told : tie.Need-enum-told
 enum-told c = search needs
 
-without-counts-requires-3 : tie.Need-without-counts-requires-3
-without-counts-requires-3 c κs = search needs
+without-counts-requires-2 : tie.Need-without-counts-requires-2
+without-counts-requires-2 c κs = search needs
 
-enum-known-answer-3 : tie.Need-enum-known-answer-3
-enum-known-answer-3 c = search needs
+enum-known-answer-2 : tie.Need-enum-known-answer-2
+enum-known-answer-2 c = search needs
 
 returns : tie.Need-returns
-returns c = rw (c .before .before .before .answer .given .1, ← c .before .number .ensures) (c .without-counts .ensures)
+returns c =
+    rw (c .before .before .before .before .answer .given .1, ← c .before .before .number .ensures, ← c .before .slot .ensures)
+    (c .without-counts .ensures)
 
 returns-2 : tie.Need-returns-2
-returns-2 c = rw (c .before .before .answer2 .given .1) (c .without-counts2 .ensures)
+returns-2 c = rw (c .before .enum-told .given .1) (c .without-counts2 .ensures)
 
 returns-3 : tie.Need-returns-3
-returns-3 c = rw (c .before .enum-told .given .1) (c .without-counts3 .ensures)
-
-returns-4 : tie.Need-returns-4
-returns-4 c = rw (c .before .answer3 .given .1) refl
+returns-3 c = rw (c .before .answer2 .given .1) refl
 
 pub answer-numbers-spec : {M : Type 1} → statement M
 answer-numbers-spec =
@@ -46,13 +42,11 @@ answer-numbers-spec =
     (tie.spec
     enum-known-answer
     number-requires
+    slot-requires
     without-counts-requires
-    enum-known-answer-2
-    without-counts-requires-2
     enum-told
-    without-counts-requires-3
-    enum-known-answer-3
+    without-counts-requires-2
+    enum-known-answer-2
     returns
     returns-2
-    returns-3
-    returns-4)
+    returns-3)

@@ -8,11 +8,10 @@ use lib.Dec.{ltb}
 use lib.ListN.{length}
 use Rattle.facts.proofs.Rules.{or-true}
 use Rattle.refusals.specs.Answer.{gives}
-use Rattle.refusals.specs.Table.{first}
 use Rattle.form1.proofs.Opening.{rows-refuse, rows-pass}
 use Rattle.form1.proofs.Passing.{whole}
 use Rattle.form1.proofs.Rows.{refuses-early, refuses-last, gives-asked}
-use Rattle.form1.specs.Form1.{fileRows}
+use Rattle.form1.specs.Form1.{fileRefusal}
 use Rattle.form1.specs.Opening.{contents}
 use Rattle.card.proofs.Answering.{nothing-altered, records-put}
 use Rattle.card.specs.Reading.{lentTooShort, reads}
@@ -33,14 +32,14 @@ start c = c .before .before .before .before
 
 -- where the file is whole: no row applies, and the contents are its own
 known : (c : tie.After-contents) → let file = start c .args .file .now in
-    (first (fileRows file) ≡ none) × (c .contents .given .0 .0 ≡ contents file)
+    (fileRefusal file ≡ none) × (c .contents .given .0 .0 ≡ contents file)
 known c = rows-pass _ (c .before .before .«open» .ensures) (c .contents .given .1)
 
 returns : tie.Need-returns
 unfolding reads lentTooShort
 returns c =
     let (pass, is) = known (c .before .before) in
-    nothing-altered _ _ _ (refuses-last _ _ 17 _ pass (rw (← ap (λ t. t .n) is, lt-ltb _ _ (c .if1 .taken)) refl))
+    nothing-altered _ _ _ (refuses-last _ _ _ pass (rw (← ap (λ t. t .n) is, lt-ltb _ _ (c .if1 .taken)) refl))
 
 returns-2 : tie.Need-returns-2
 unfolding reads lentTooShort
@@ -49,7 +48,7 @@ returns-2 c =
     let (pass, is) = known k in
     let short = ltb (length (start k .args .lowest .now)) (k .contents .given .0 .0 .n) in
     nothing-altered _ _ _
-    (refuses-last _ _ 17 _ pass (rw (← ap (λ t. t .n) is) (or-true short (lt-ltb _ _ (c .if2 .taken)))))
+    (refuses-last _ _ _ pass (rw (← ap (λ t. t .n) is) (or-true short (lt-ltb _ _ (c .if2 .taken)))))
 
 fill-requires : tie.Need-fill-requires
 fill-requires c κs =
@@ -77,7 +76,7 @@ returns-4 c =
     let lent = put .before .before .before in
     let (pass, is) = known (lent .before .before .before) in
     records-put _ _ _ _
-    (gives-asked _ _ 17 _ pass
+    (gives-asked _ _ _ pass
     (rw (← ap (λ t. t .n) is, le-ltb _ _ (lent .before .if1 .left), le-ltb _ _ (lent .if2 .left)) refl)
     ∙ ap (λ t. gives (record { settings = t .settings; n = t .n })) (sym is))
     (put .fill .ensures .0) (put .fill .ensures .1)

@@ -1,9 +1,14 @@
--- `checks::check_request` meets its contract: the first refusal that applies (`Forming`).
-use mathlib.Core.Path.{sym, ap, _∙_}
+-- `checks::check_request` meets its contract: lengths and settings, then the slots.
+use mathlib.Core.Bool.{_||_}
+use mathlib.Core.Path.{_≡_, sym, ap, _∙_}
 use borrow.Author.Needs.{needs}
-use Rattle.settings.proofs.Passing.{passing-by}
-use Rattle.settings.specs.Refusals.{checked}
-use Rattle.checks.proofs.Forming.{first-refusal, slots-left}
+use lib.ListN.{length}
+use Rattle.facts.proofs.Rules.{neither}
+use Rattle.refusals.proofs.Table.{given-as-one, passed-as-one, only}
+use Rattle.refusals.specs.Answer.{checked}
+use Rattle.requests.specs.Request
+use Rattle.settings.proofs.Passing.{same, passing}
+use Rattle.settings.specs.Refusals.{differs, refusal}
 use Rattle.checks.proofs.check_request.Statement.{statement}
 use Rattle.checks.proofs.check_request.Tie as tie
 
@@ -13,29 +18,40 @@ differ-requires c κs = search needs
 check-requires : tie.Need-check-requires
 check-requires c κs = search needs
 
+-- lengths and settings, whichever slice differs
+met : (c : tie.After-check) → let args = c .before .before .args in let n = length (args .lowest .now) in
+    checked (c .check .result) ≡ refusal n (differs n (length (args .highest .now)) || args .different) (args .settings)
+met c = rw (← c .before .differ .ensures) (c .check .ensures)
+
 enum-known-checked : tie.Need-enum-known-checked
 enum-known-checked c = search needs
 
 returns : tie.Need-returns
-returns c =
-    let k = c .before .before .before in
-    first-refusal _ _ _ (k .before .differ .ensures) (k .check .ensures) _ (c .before .checked .given .1)
+unfolding Request.requestRefusal
+returns c = given-as-one _ _ _ (met (c .before .before .before)) _ (c .before .checked .given .1)
 
 enum-told : tie.Need-enum-told
 enum-told c = search needs
 
 first-crossed-requires : tie.Need-first-crossed-requires
 first-crossed-requires c κs =
-    let k = c .before .before in
-    passing-by (k .before .differ .ensures) (sym (k .check .ensures) ∙ ap checked (c .enum-told .given .1)) .same .0
+    let (same-lengths, _) = passing .0 (sym (met (c .before .before)) ∙ ap checked (c .enum-told .given .1)) in
+    same _ _ .0 (neither _ _ same-lengths .0)
 
 returns-2 : tie.Need-returns-2
+unfolding Request.requestRefusal
 returns-2 c =
     let passed = c .before in
-    let k = passed .before .before in
-    slots-left _ _ _ (k .before .differ .ensures) (k .check .ensures) (passed .enum-told .given .1) (c .first-crossed .ensures)
+    passed-as-one _ _ _ (met (passed .before .before)) (passed .enum-told .given .1) (only _ (c .first-crossed .ensures))
 
 pub check-request-spec : {M : Type 1} → statement M
 check-request-spec =
     tie.close
-    (tie.spec differ-requires check-requires enum-known-checked returns enum-told first-crossed-requires returns-2)
+    (tie.spec
+    differ-requires
+    check-requires
+    enum-known-checked
+    returns
+    enum-told
+    first-crossed-requires
+    returns-2)

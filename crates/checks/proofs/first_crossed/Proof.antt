@@ -1,8 +1,7 @@
 -- `checks::first_crossed` meets its contract. The loop's invariant: no ranges cross before slot i (`Uncrossed`).
 use Prim.Native.Nat.{_-_}
 use native.Mathlib.Omega.{arith}
-use mathlib.Core.Option.{none}
-use mathlib.Core.Path.{_≡_, sym, ap, _∙_}
+use mathlib.Core.Path.{_≡_, sym, _∙_}
 use borrow.Author.Needs.{needs}
 use lib.ListN.{length}
 use lib.Signed.{ltZ}
@@ -10,7 +9,7 @@ use mir.Facts.{toZ-ofZ}
 use mir.Syntax.{w32}
 use mir.Val.{SFits}
 use Rattle.checks.proofs.Crossing.{Uncrossed, none-met, met-here, met-later, met-nowhere}
-use Rattle.requests.specs.Request.{at, behind}
+use Rattle.requests.specs.Request.{at}
 use Rattle.checks.proofs.first_crossed.Statement.{statement}
 use Rattle.checks.proofs.first_crossed.Tie as tie
 
@@ -53,7 +52,7 @@ tested c =
 returns : tie.Need-returns Inv-loop μ-loop
 returns c =
     let loop = c .before .before .before .before .before .loop in
-    ap (behind none) (met-here (loop .i) (omega arith) (loop .inv) (omega arith) (sym (tested (c .before)) ∙ c .if1 .taken))
+    met-here (loop .i) (omega arith) (loop .inv) (omega arith) (sym (tested (c .before)) ∙ c .if1 .taken)
 
 add-i : tie.Need-add-i Inv-loop μ-loop
 add-i c = search needs
@@ -69,7 +68,7 @@ loop-again c =
 returns-2 : tie.Need-returns-2 Inv-loop μ-loop
 returns-2 c =
     let loop = c .before .loop in
-    ap (behind none) (met-nowhere (loop .i) (omega arith) (loop .inv) (omega arith))
+    met-nowhere (loop .i) (omega arith) (loop .inv) (omega arith)
 
 pub first-crossed-spec : {M : Type 1} → statement M
 first-crossed-spec =

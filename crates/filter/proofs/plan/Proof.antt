@@ -8,15 +8,16 @@ use mir.Syntax.{w32}
 use mir.Val.{SFits}
 use borrow.Author.Needs.{needs}
 use Rattle.settings.specs.Refusals.{limit}
-use Rattle.filter.proofs.Answering.{sizes, whole, whole-short, no-plan-kept, some-plan, plan-kept}
+use Rattle.filter.proofs.Answering.{whole, whole-short, no-plan-kept, some-plan, plan-kept}
 use Rattle.rule.specs.Codes.{decoded}
+use Rattle.requests.proofs.Requests.{formed}
 use Rattle.requests.specs.Request.{Request, asked, slots, WellFormed}
 use Rattle.requests.specs.Solution.{classes, cheapest, sparsest}
 use Rattle.filter.proofs.plan.Statement.{statement}
 use Rattle.filter.proofs.plan.Tie as tie
 
 classify-requires : tie.Need-classify-requires
-classify-requires c κs = let z = sizes _ (c .before .before .before .before .pre) in (z .highest, z .short)
+classify-requires c κs = let f = formed .0 (c .before .before .before .before .pre) in (f .width, f .pass .slots .1)
 
 -- The request, where its bytes are known: they stand for its classes (`k` was handed on as bits).
 abbrev request : tie.After-classify → Request
@@ -33,7 +34,7 @@ by-bytes c =
     simp (toZ-ofZ, k) at (c .classify .ensures .1)
 
 array-share-prefix-codes : tie.Need-array-share-prefix-codes
-array-share-prefix-codes c = omega (arith, sizes _ (well c) .short, c .classify .ensures .0)
+array-share-prefix-codes c = omega (arith, formed .0 (well c) .pass .slots .1, c .classify .ensures .0)
 
 slice-aggregate-low : tie.Need-slice-aggregate-low
 slice-aggregate-low c = sym (whole _ (well (c .before)) _ (c .before .classify .ensures .0))
@@ -68,7 +69,7 @@ abbrev classified : tie.Else1 → tie.After-classify
 classified c = c .before .before .before .before .before
 
 array-share-prefix-codes-2 : tie.Need-array-share-prefix-codes-2
-array-share-prefix-codes-2 c = omega (arith, sizes _ (well (classified c)) .short, classified c .classify .ensures .0)
+array-share-prefix-codes-2 c = omega (arith, formed .0 (well (classified c)) .pass .slots .1, classified c .classify .ensures .0)
 
 slice-aggregate-draw : tie.Need-slice-aggregate-draw
 slice-aggregate-draw c =
@@ -79,22 +80,23 @@ draw-requires : tie.Need-draw-requires
 draw-requires c κs =
     let exists = c .before .before in
     let k = classified exists in
-    let z = sizes _ (well k) in
+    let f = formed .0 (well k) in
+    let p = f .pass in
     let wide = k .classify .ensures .0 in
     let low = counts (exists .before .before .before) in (
       whole-short _ (well k) _ wide,
-      z .marks ∙ sym (whole _ (well k) _ wide),
-      z .len,
-      z .windows,
-      z .covered,
+      f .marked ∙ sym (whole _ (well k) _ wide),
+      p .length .0,
+      omega (arith, p .windows .1, p .slots .1),
+      omega (arith, p .covered .1, p .slots .1),
       some-plan _ (well k) _ (by-bytes k) _ (low .0) (low .1) (exists .if1 .left),
     )
 
 narrow-requires : tie.Need-narrow-requires
 narrow-requires c κs =
     let k = classified (c .before .before .before .before .before .before .before) in
-    let z = sizes _ (well k) in
-    (k .classify .ensures .0, z .short, z .highest, z .len, by-bytes k)
+    let f = formed .0 (well k) in
+    (k .classify .ensures .0, f .pass .slots .1, f .width, f .pass .length .0, by-bytes k)
 
 raise-requires : tie.Need-raise-requires
 raise-requires c κs = search needs

@@ -1,19 +1,19 @@
 -- `form1::open` meets its contract: what `check` gave, and a whole file has the trailer and the records.
-use Prim.Native.Nat.{ℕ}
 use native.Mathlib.Omega.{arith}
 use mathlib.Core.Option.{Option, none}
 use mathlib.Core.Path.{_≡_, refl, sym, ap, _∙_}
 use borrow.Author.Needs.{needs}
-use Rattle.refusals.specs.Table.{first}
+use Rattle.refusals.specs.Answer.{checked}
+use Rattle.refusals.specs.declared.Checked.{Checked}
+use Rattle.refusals.specs.declared.Refusal.{Refusal}
 use Rattle.form1.proofs.Passing.{whole}
-use Rattle.form1.specs.Form1.{fileRows}
-use Rattle.form1.specs.Opening.{checked, opening}
-use Rattle.form1.specs.declared.check.Checked.{Checked}
+use Rattle.form1.specs.Form1.{fileRefusal}
+use Rattle.form1.specs.Opening.{opening}
 use Rattle.form1.proofs.open.Statement.{statement}
 use Rattle.form1.proofs.open.Tie as tie
 
 -- what the rows come to, by what `check` gave
-met : {o : Option ℕ} {r q : Checked} → checked r ≡ o → r ≡ q → o ≡ checked q
+met : {o : Option Refusal} {r q : Checked} → checked r ≡ o → r ≡ q → o ≡ checked q
 met is e = sym is ∙ ap checked e
 
 check-requires : tie.Need-check-requires
@@ -30,7 +30,7 @@ enum-told : tie.Need-enum-told
 enum-told c = search needs
 
 -- no row of the file applies
-passing : (c : tie.After-enum-told) → first (fileRows (c .before .before .before .before .args .file .now)) ≡ none
+passing : (c : tie.After-enum-told) → fileRefusal (c .before .before .before .before .args .file .now) ≡ none
 passing c = met (c .before .before .check .ensures) (c .enum-told .given .1)
 
 settings-requires : tie.Need-settings-requires

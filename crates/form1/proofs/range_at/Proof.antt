@@ -8,12 +8,12 @@ use lib.ListN.{length}
 use mir.Facts.{toZ-ofZ}
 use mir.Syntax.{w32}
 use mir.Val.{SFits}
-use Rattle.form1.specs.Opening.{boundsAt}
+use Rattle.form1.specs.Opening.{rangeAt}
 use Rattle.form1.proofs.range_at.Statement.{statement}
 use Rattle.form1.proofs.range_at.Tie as tie
 
 returns : tie.Need-returns
-unfolding boundsAt
+unfolding rangeAt
 returns c =
     let args = c .before .before .args in
     rw (lt-leb (args .place + 8) (length (args .file .now)) (omega arith)) refl
@@ -22,7 +22,7 @@ sub-if2 : tie.Need-sub-if2
 sub-if2 c = search needs
 
 returns-2 : tie.Need-returns-2
-unfolding boundsAt
+unfolding rangeAt
 returns-2 c =
     let args = c .before .before .before .args in
     rw (lt-leb (args .place + 8) (length (args .file .now)) (omega arith)) refl
@@ -37,7 +37,7 @@ signed-at-requires-2 : tie.Need-signed-at-requires-2
 signed-at-requires-2 c κs = search needs
 
 returns-3 : tie.Need-returns-3
-unfolding boundsAt
+unfolding rangeAt
 returns-3 c =
     let args = c .before .before .before .before .before .args in
     let lowest : SFits w32 (c .before .signed-at .result) = record { sfits = c .before .signed-at .ok } in

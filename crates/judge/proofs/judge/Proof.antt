@@ -5,8 +5,9 @@ use mathlib.Core.Path.{_≡_, sym, _∙_, ap}
 use borrow.Author.Needs.{needs}
 use lib.ListN.{length}
 use Rattle.judge.proofs.Judging.{judging}
-use Rattle.settings.proofs.Passing.{passing-by}
-use Rattle.settings.specs.Refusals.{limit, checked}
+use Rattle.refusals.specs.Answer.{checked}
+use Rattle.settings.proofs.Passing.{same, passing}
+use Rattle.settings.specs.Refusals.{limit}
 use Rattle.judge.proofs.judge.Statement.{statement}
 use Rattle.judge.proofs.judge.Tie as tie
 
@@ -29,8 +30,8 @@ passed : (c : tie.After-enum-told) → let args = c .before .before .before .bef
     (length (args .loads .now) ≡ length (args .marks .now)) × (length (args .marks .now) ≤ limit)
 passed c =
     let k = c .before .before in
-    let p = passing-by (k .before .differ .ensures) (sym (k .check .ensures) ∙ ap checked (c .enum-told .given .1)) in
-    omega (arith, p .same .0, p .slots .1)
+    let (d, p) = passing .0 (sym (k .check .ensures) ∙ ap checked (c .enum-told .given .1)) in
+    omega (arith, same _ _ .0 (sym (k .before .differ .ensures) ∙ d), p .slots .1)
 
 legal-requires : tie.Need-legal-requires
 legal-requires c κs = passed c

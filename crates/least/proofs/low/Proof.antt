@@ -1,4 +1,4 @@
--- `least::low` meets its contract: what `read_off` is lent are the first 64 slots (`Lending`).
+-- `least::low` meets its contract: what `read_off` is lent are the first LIMIT slots (`Lending`).
 use borrow.Author.Needs.{needs}
 use Rattle.least.proofs.Lending.{counted, short, first-slots}
 use Rattle.least.proofs.low.Statement.{statement}

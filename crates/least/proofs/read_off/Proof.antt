@@ -1,7 +1,6 @@
 -- `least::read_off` meets its contract: both counts are read off the rows.
 use native.Mathlib.Omega.{arith}
 use borrow.Author.Needs.{needs}
-use Rattle.least.proofs.Filling.{at-slot}
 use Rattle.least.proofs.read_off.Statement.{statement}
 use Rattle.least.proofs.read_off.Tie as tie
 
@@ -17,8 +16,7 @@ array-read-t10 c = search needs
 returns : tie.Need-returns
 returns c =
     let (behind, first) = c .before .before .before .fill .ensures in
-    let classes = c .before .before .before .before .before .args .classes .now in
-    (first, at-slot _ classes _ 0 (c .next-row .ensures _ behind) (omega arith))
+    (first, c .next-row .ensures _ behind .counts 0 (omega arith))
 
 pub read-off-spec : {M : Type 1} → statement M
 read-off-spec = tie.close (tie.spec fill-requires next-row-requires array-read-t10 returns)

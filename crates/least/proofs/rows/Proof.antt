@@ -1,4 +1,4 @@
--- `least::rows` meets its contract: what `fill` is lent are the first 64 slots (`Lending`).
+-- `least::rows` meets its contract: what `fill` is lent are the first LIMIT slots (`Lending`).
 use borrow.Author.Needs.{needs}
 use Rattle.least.proofs.Lending.{counted, short, first-slots}
 use Rattle.least.proofs.rows.Statement.{statement}

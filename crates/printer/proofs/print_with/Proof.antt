@@ -10,6 +10,7 @@ use Rattle.refusals.specs.Answer.{gives}
 use Rattle.card.proofs.Agreeing.{few-slots}
 use Rattle.card.specs.Reading.{told, reading}
 use Rattle.listing.specs.Text.{said, text}
+use Rattle.settings.specs.Refusals.{limit}
 use Rattle.printer.proofs.Telling.{refusal-of, of-refusal, of-plan}
 use Rattle.printer.proofs.print_with.Statement.{statement}
 use Rattle.printer.proofs.print_with.Tie as tie
@@ -19,9 +20,6 @@ read-requires c κs = search needs
 
 enum-known-refusal : tie.Need-enum-known-refusal
 enum-known-refusal c = search needs
-
-number-requires : tie.Need-number-requires
-number-requires c κs = search needs
 
 refused-requires : tie.Need-refused-requires
 refused-requires c κs = search needs
@@ -45,8 +43,8 @@ taken : (c : tie.After-settings) →
     ≡ gives (record { settings = c .settings .given .0 .0; n = n c })
 taken c = sym (ap (λ o. o .answer) (was-read c .read .ensures)) ∙ ap told (c .settings .given .1)
 
-few : (c : tie.After-settings) → n c ≤ 64
-few c = few-slots _ _ _ (taken c)
+few : (c : tie.After-settings) → n c ≤ limit
+few c = omega (arith, few-slots _ _ _ (taken c))
 
 -- and all three slices have n places
 places : (c : tie.After-settings) →
@@ -95,12 +93,11 @@ returns : tie.Need-returns
 unfolding text said
 returns c =
     let told = c .before .before in
-    let numbered = told .before .before in
-    let known = numbered .before .before in
+    let known = told .before .before .before in
     let k = known .before .before .before .before in
     record {
-      outcome = refusal-of (numbered .number .result);
-      holds = rw (numbered .number .ensures) (of-refusal _ _ _ _ (k .read .ensures) (known .refusal .given .1));
+      outcome = refusal-of _;
+      holds = of-refusal _ _ _ _ (k .read .ensures) (known .refusal .given .1);
       written = told .refused .ensures .0;
       fits = le-trans (told .refused .ensures .1) (start k .pre .1);
     }
@@ -135,7 +132,6 @@ print-with-spec =
     (tie.spec
     read-requires
     enum-known-refusal
-    number-requires
     refused-requires
     enum-known-settings
     slice-relend-prefix-print-plan

@@ -5,62 +5,33 @@ use Rattle.settings.specs.Refusals
 use Rattle.settings.proofs.check.Statement.{statement}
 use Rattle.settings.proofs.check.Tie as tie
 
-wrong-slots-requires : tie.Need-wrong-slots-requires
-wrong-slots-requires c κs = search needs
+check-lengths-requires : tie.Need-check-lengths-requires
+check-lengths-requires c κs = search needs
+
+enum-known-lengths : tie.Need-enum-known-lengths
+enum-known-lengths c = search needs
 
 returns : tie.Need-returns
-unfolding Refusals.refusalBy
+unfolding Refusals.refusal
 returns c = search rows depth 9
 
+enum-told : tie.Need-enum-told
+enum-told c = search needs
+
+check-settings-requires : tie.Need-check-settings-requires
+check-settings-requires c κs = search needs
+
 returns-2 : tie.Need-returns-2
-unfolding Refusals.refusalBy
+unfolding Refusals.refusal
 returns-2 c = search rows depth 9
-
-wrong-length-requires : tie.Need-wrong-length-requires
-wrong-length-requires c κs = search needs
-
-returns-3 : tie.Need-returns-3
-unfolding Refusals.refusalBy
-returns-3 c = search rows depth 9
-
-wrong-bridges-requires : tie.Need-wrong-bridges-requires
-wrong-bridges-requires c κs = search needs
-
-returns-4 : tie.Need-returns-4
-unfolding Refusals.refusalBy
-returns-4 c = search rows depth 9
-
-wrong-counts-requires : tie.Need-wrong-counts-requires
-wrong-counts-requires c κs = search needs
-
-returns-5 : tie.Need-returns-5
-unfolding Refusals.refusalBy
-returns-5 c = search rows depth 9
-
-wrong-counts-requires-2 : tie.Need-wrong-counts-requires-2
-wrong-counts-requires-2 c κs = search needs
-
-returns-6 : tie.Need-returns-6
-unfolding Refusals.refusalBy
-returns-6 c = search rows depth 9
-
-returns-7 : tie.Need-returns-7
-unfolding Refusals.refusalBy
-returns-7 c = search rows depth 9
 
 pub check-spec : {M : Type 1} → statement M
 check-spec =
     tie.close
     (tie.spec
-    wrong-slots-requires
+    check-lengths-requires
+    enum-known-lengths
     returns
-    returns-2
-    wrong-length-requires
-    returns-3
-    wrong-bridges-requires
-    returns-4
-    wrong-counts-requires
-    returns-5
-    wrong-counts-requires-2
-    returns-6
-    returns-7)
+    enum-told
+    check-settings-requires
+    returns-2)

@@ -1,8 +1,12 @@
 -- `settings::wrong_length` meets its contract: its tests are the row's.
+use borrow.Author.Needs.{needs}
 use Rattle.facts.proofs.Rules.{rules}
 use Rattle.settings.specs.Refusals
 use Rattle.settings.proofs.wrong_length.Statement.{statement}
 use Rattle.settings.proofs.wrong_length.Tie as tie
+
+cast-result : tie.Need-cast-result
+cast-result c = search needs
 
 returns : tie.Need-returns
 unfolding Refusals.wrongLength
@@ -13,4 +17,4 @@ unfolding Refusals.wrongLength
 returns-2 c = search rules
 
 pub wrong-length-spec : {M : Type 1} → statement M
-wrong-length-spec = tie.close (tie.spec returns returns-2)
+wrong-length-spec = tie.close (tie.spec cast-result returns returns-2)

@@ -2,6 +2,7 @@
 use mathlib.Core.Path.{_≡_, ap, sym, _∙_}
 use borrow.Author.Needs.{needs}
 use mir.Facts.{toZ-ofZ}
+use Rattle.rule.specs.Rule.{shaped}
 use Rattle.watch.specs.Promise.{started, starting}
 use Rattle.c_api.specs.WatchNumbers.{startOf}
 use Rattle.c_api.proofs.watches.icecoppice_watch_start.Statement.{statement}
@@ -10,7 +11,7 @@ use Rattle.c_api.proofs.watches.icecoppice_watch_start.Tie as tie
 start-requires : tie.Need-start-requires
 start-requires c κs = search needs
 
-told : (c : tie.After-start) → let args = c .before .args in started (c .start .result) ≡ starting (args .k) (args .len) (args .h)
+told : (c : tie.After-start) → let args = c .before .args in started (c .start .result) ≡ starting (args .k) (shaped (args .len) (args .h))
 told c = simp (toZ-ofZ, c .before .fits .k) at (c .start .ensures)
 
 enum-known-started : tie.Need-enum-known-started

@@ -6,14 +6,10 @@ use mathlib.Core.Path.{_≡_, sym, ap}
 use borrow.Author.Needs.{needs}
 use borrow.Author.Tests.{le-leb, lt-leb}
 use lib.ListN.{length}
-use mir.Facts.{toZ-ofZ}
-use mir.Syntax.{w32}
-use mir.Val.{SFits}
-use Rattle.refusals.specs.Table.{first}
 use Rattle.form1.proofs.Opening.{rows-refuse, rows-pass, slot-at}
 use Rattle.form1.proofs.Passing.{whole}
 use Rattle.form1.proofs.Rows.{refuses-early, refuses-last, gives-asked}
-use Rattle.form1.specs.Form1.{fileRows}
+use Rattle.form1.specs.Form1.{fileRefusal}
 use Rattle.form1.specs.Opening.{contents}
 use Rattle.card.specs.Reading.{noSlot, looking}
 use Rattle.card.proofs.lookup.look_up.Statement.{statement}
@@ -33,7 +29,7 @@ start c = c .before .before .before .before
 
 -- where the file is whole: no row applies, and the contents are its own
 known : (c : tie.After-contents) → let file = start c .args .file .now in
-    (first (fileRows file) ≡ none) × (c .contents .given .0 .0 ≡ contents file)
+    (fileRefusal file ≡ none) × (c .contents .given .0 .0 ≡ contents file)
 known c = rows-pass _ (c .before .before .«open» .ensures) (c .contents .given .1)
 
 returns : tie.Need-returns
@@ -42,7 +38,7 @@ returns c =
     let k = c .before .before .before in
     let n = k .contents .given .0 .0 .n in
     let (pass, is) = known k in
-    sym (refuses-last _ _ 19 _ pass (rw (← ap (λ t. t .n) is) (le-leb n (start k .args .slot) (omega (arith, c .if1 .taken)))))
+    sym (refuses-last _ _ _ pass (rw (← ap (λ t. t .n) is) (le-leb n (start k .args .slot) (omega (arith, c .if1 .taken)))))
 
 -- and where the slot is below n, its record is there
 there : (c : tie.Else1) →
@@ -72,16 +68,13 @@ returns-2 c =
 returns-3 : tie.Need-returns-3
 unfolding looking noSlot
 returns-3 c =
-    let below = c .before .before .before in
+    let below = c .before .before in
     let k = below .before .before .before in
     let file = start k .args .file .now in
     let slot = start k .args .slot in
     let (pass, is) = known k in
-    let low : SFits w32 (c .before .range-at .result .lowest) = record { sfits = c .struct-told .given .0 .1 } in
-    let high : SFits w32 (c .before .range-at .result .highest) = record { sfits = c .struct-told .given .1 .0 .1 } in
-    let (lowest, highest) = slot-at file slot _ (ap (λ t. t .start + 8 * slot) is) (there below) in
-    rw (toZ-ofZ low, toZ-ofZ high, c .before .range-at .ensures, lowest, highest)
-    (sym (gives-asked _ _ 19 _ pass (rw (← ap (λ t. t .n) is) (lt-leb _ slot (below .if1 .left)))))
+    rw (c .range-at .ensures, slot-at file slot _ (ap (λ t. t .start + 8 * slot) is) (there below))
+    (sym (gives-asked _ _ _ pass (rw (← ap (λ t. t .n) is) (lt-leb _ slot (below .if1 .left)))))
 
 pub look-up-spec : {M : Type 1} → statement M
 look-up-spec =

@@ -59,10 +59,11 @@ loop-again c =
     let slot = at .loop .slot in
     let low : SFits w32 (read .range-at .result .lowest) = record { sfits = c .before .struct-told .given .0 .1 } in
     let high : SFits w32 (read .range-at .result .highest) = record { sfits = c .struct-told2 .given .1 .0 .1 } in
-    let (lowest, highest) = slot-at (given .args .file .now) slot _ (ap (λ s. s + 8 * slot) (given .pre .0 .0)) (omega arith) in
+    let there = slot-at (given .args .file .now) slot _ (ap (λ s. s + 8 * slot) (given .pre .0 .0)) (omega arith) in
+    let is = read .range-at .ensures ∙ there in
     rw (toZ-ofZ low, toZ-ofZ high) (
-      turn (omega arith) (ap (λ b. b .lowest) (read .range-at .ensures) ∙ lowest) (at .loop .inv .0),
-      turn (omega arith) (ap (λ b. b .highest) (read .range-at .ensures) ∙ highest) (at .loop .inv .1),
+      turn (omega arith) (ap (λ r. r .lowest) is) (at .loop .inv .0),
+      turn (omega arith) (ap (λ r. r .highest) is) (at .loop .inv .1),
       omega arith,
     )
 

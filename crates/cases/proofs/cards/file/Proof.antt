@@ -1,10 +1,11 @@
--- `cases::cards::file` is safe: a file that is read has at most 64 slots.
+-- `cases::cards::file` is safe: a file that is read has no more slots than a plan may have.
 use Prim.Native.Nat.{_≤_}
 use native.Mathlib.Omega.{arith}
 use mathlib.Core.Path.{sym, ap, _∙_}
 use borrow.Author.Needs.{needs}
 use Rattle.card.proofs.Agreeing.{few-slots}
 use Rattle.card.specs.Reading.{told}
+use Rattle.settings.specs.Refusals.{limit}
 use Rattle.cases.proofs.cards.file.Statement.{statement}
 use Rattle.cases.proofs.cards.file.Tie as tie
 
@@ -19,9 +20,6 @@ read-requires c κs = search needs
 
 enum-known-refusal : tie.Need-enum-known-refusal
 enum-known-refusal c = search needs
-
-number-requires : tie.Need-number-requires
-number-requires c κs = search needs
 
 refused-requires : tie.Need-refused-requires
 refused-requires c κs = search needs
@@ -45,8 +43,8 @@ slice-aggregate-request-2 c = search needs
 abbrev was-read : tie.After-settings → tie.After-read
 was-read c = c .before .before .before .before
 
-few : (c : tie.After-settings) → c .settings .given .0 .1 .0 ≤ 64
-few c = few-slots _ _ _ (sym (ap (λ o. o .answer) (was-read c .read .ensures)) ∙ ap told (c .settings .given .1))
+few : (c : tie.After-settings) → c .settings .given .0 .1 .0 ≤ limit
+few c = omega (arith, few-slots _ _ _ (sym (ap (λ o. o .answer) (was-read c .read .ensures)) ∙ ap told (c .settings .given .1)))
 
 request-requires : tie.Need-request-requires
 request-requires c κs =
@@ -68,7 +66,6 @@ file-spec =
     slice-aggregate-read-2
     read-requires
     enum-known-refusal
-    number-requires
     refused-requires
     line-feed-requires
     enum-known-settings

@@ -1,14 +1,15 @@
--- `cases::cards::records` is safe and ends: it counts up to 65.
+-- `cases::cards::records` is safe and ends: it counts up to the places of a plan.
 use Prim.Native.Nat.{_-_, _≤_}
 use borrow.Author.Needs.{needs}
+use Rattle.settings.specs.Refusals.{places}
 use Rattle.cases.proofs.cards.records.Statement.{statement}
 use Rattle.cases.proofs.cards.records.Tie as tie
 
 abbrev Inv-loop : tie.InvT-loop
-Inv-loop file slot₀ slot = slot ≤ 65
+Inv-loop file slot₀ slot = slot ≤ places
 
 abbrev μ-loop : tie.MeasureT-loop
-μ-loop file slot₀ slot = 65 - slot
+μ-loop file slot₀ slot = places - slot
 
 loop-holds : tie.Need-loop-holds Inv-loop μ-loop
 loop-holds c = search needs

@@ -20,17 +20,17 @@ abbrev μ-loop : tie.MeasureT-loop
 loop-holds : tie.Need-loop-holds Inv-loop μ-loop
 loop-holds c = none-classed
 
-mul-class-of : tie.Need-mul-class-of Inv-loop μ-loop
-mul-class-of c = search needs
+mul-t7 : tie.Need-mul-t7 Inv-loop μ-loop
+mul-t7 c = search needs
 
-shared-slice-copy-out-class-of : tie.Need-shared-slice-copy-out-class-of Inv-loop μ-loop
-shared-slice-copy-out-class-of c = search needs
+shared-slice-copy-out-t10 : tie.Need-shared-slice-copy-out-t10 Inv-loop μ-loop
+shared-slice-copy-out-t10 c = search needs
 
-mul-class-of-2 : tie.Need-mul-class-of-2 Inv-loop μ-loop
-mul-class-of-2 c = search needs
+mul-t11 : tie.Need-mul-t11 Inv-loop μ-loop
+mul-t11 c = search needs
 
-shared-slice-copy-out-class-of-2 : tie.Need-shared-slice-copy-out-class-of-2 Inv-loop μ-loop
-shared-slice-copy-out-class-of-2 c = search needs
+shared-slice-copy-out-t13 : tie.Need-shared-slice-copy-out-t13 Inv-loop μ-loop
+shared-slice-copy-out-t13 c = search needs
 
 class-of-requires : tie.Need-class-of-requires Inv-loop μ-loop
 class-of-requires c κs = search needs
@@ -48,8 +48,8 @@ loop-again : tie.Need-loop-again Inv-loop μ-loop
 loop-again c =
     let args = c .before .before .before .before .before .args in
     let loop = c .before .before .before .before .loop in
-    let lo : SFits w32 (at (args .lowest .now) (loop .i)) = record { sfits = c .before .before .class-of-arg .given } in
-    let hi : SFits w32 (at (args .highest .now) (loop .i)) = record { sfits = c .before .class-of-arg2 .given } in
+    let lo : SFits w32 (at (args .lowest .now) (loop .i)) = record { sfits = c .before .before .t10 .given } in
+    let hi : SFits w32 (at (args .highest .now) (loop .i)) = record { sfits = c .before .t13 .given } in
     one-classed (omega arith) (loop .codes) (loop .i) (loop .inv) _ (omega arith) (simp (toZ-ofZ, lo, hi) at (c .class-of .ensures))
 
 returns : tie.Need-returns Inv-loop μ-loop
@@ -65,10 +65,10 @@ classify-spec =
     Inv-loop
     μ-loop
     loop-holds
-    mul-class-of
-    shared-slice-copy-out-class-of
-    mul-class-of-2
-    shared-slice-copy-out-class-of-2
+    mul-t7
+    shared-slice-copy-out-t10
+    mul-t11
+    shared-slice-copy-out-t13
     class-of-requires
     array-write-codes
     add-i

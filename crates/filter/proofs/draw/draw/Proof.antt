@@ -4,6 +4,7 @@ use native.Mathlib.Omega.{arith}
 use mathlib.Core.Path.{refl}
 use borrow.Author.Needs.{needs}
 use lib.ListN.{length, length-replicate}
+use Rattle.settings.specs.Refusals.{places}
 use Rattle.filter.proofs.Drawing.{Drawn, begins, closes, steps, drawn-on, all-drawn}
 use Rattle.filter.proofs.draw.draw.Statement.{statement}
 use Rattle.filter.proofs.draw.draw.Tie as tie
@@ -16,7 +17,7 @@ abbrev μ-loop : tie.MeasureT-loop
 
 loop-holds : tie.Need-loop-holds Inv-loop μ-loop
 loop-holds c =
-    begins _ _ _ _ (omega arith) (length-replicate {A = ℕ} 65 0) (omega arith) (omega arith) (c .before .before .pre .5)
+    begins _ _ _ _ (omega arith) (length-replicate {A = ℕ} places 0) (omega arith) (omega arith) (c .before .before .pre .5)
 
 mul-close : tie.Need-mul-close Inv-loop μ-loop
 mul-close c = search needs

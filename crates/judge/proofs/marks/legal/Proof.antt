@@ -17,13 +17,13 @@ use Rattle.judge.proofs.marks.legal.Tie as tie
 
 abbrev Inv-loop : tie.InvT-loop
 Inv-loop settings loads marks at₀ i₀ at i =
-    (i ≤ length marks) × Left (settings .k) (settings .len) (settings .h) loads marks at i
+    (i ≤ length marks) × Left (settings .k) (settings .shape) loads marks at i
 
 abbrev μ-loop : tie.MeasureT-loop
 μ-loop settings loads marks at₀ i₀ at i = length marks - i
 
 loop-holds : tie.Need-loop-holds Inv-loop μ-loop
-loop-holds c = (omega arith, placed _ _ _ _ _)
+loop-holds c = (omega arith, placed _ _ _ _)
 
 mul-over : tie.Need-mul-over Inv-loop μ-loop
 mul-over c = search needs
@@ -49,7 +49,7 @@ enum-told c = search needs
 stepped : (c : tie.After-read Inv-loop μ-loop) →
     let args = c .before .before .before .before .before .before .before .before .args in
     let loop = c .before .before .before .before .before .before .loop in
-    c .read .result ≡ stepOf (args .settings .len) (args .settings .h) (loop .at) (over (args .settings .k) (getD (args .loads .now) (loop .i) (pos 0))) (getD (args .marks .now) (loop .i) 0)
+    c .read .result ≡ stepOf (args .settings .shape) (loop .at) (over (args .settings .k) (getD (args .loads .now) (loop .i) (pos 0))) (getD (args .marks .now) (loop .i) 0)
 stepped c =
     let args = c .before .before .before .before .before .before .before .before .args in
     let loop = c .before .before .before .before .before .before .loop in
@@ -60,7 +60,7 @@ stepped c =
 returns : tie.Need-returns Inv-loop μ-loop
 returns c =
     let loop = c .before .before .before .before .before .before .before .before .loop in
-    sym (stuck _ _ _ _ _ (loop .at) (loop .i) (loop .inv .1) (omega arith) (omega arith) (sym (stepped (c .before .before)) ∙ c .enum-told .given .1))
+    sym (stuck _ _ _ _ (loop .at) (loop .i) (loop .inv .1) (omega arith) (omega arith) (sym (stepped (c .before .before)) ∙ c .enum-told .given .1))
 
 add-i : tie.Need-add-i Inv-loop μ-loop
 add-i c = search needs
@@ -71,12 +71,12 @@ loop-less c = search needs
 loop-again : tie.Need-loop-again Inv-loop μ-loop
 loop-again c =
     let loop = c .before .before .before .before .before .before .before .before .before .loop in
-    (omega arith, turn _ _ _ _ _ (loop .at) (loop .i) (loop .inv .1) (omega arith) (omega arith) _ (sym (stepped (c .before .before .before)) ∙ c .before .next .given .1))
+    (omega arith, turn _ _ _ _ (loop .at) (loop .i) (loop .inv .1) (omega arith) (omega arith) _ (sym (stepped (c .before .before .before)) ∙ c .before .next .given .1))
 
 returns-2 : tie.Need-returns-2 Inv-loop μ-loop
 returns-2 c =
     let loop = c .before .before .loop in
-    finished _ _ _ _ _ (loop .at) (loop .i) (loop .inv .1) (omega arith) (omega arith)
+    finished _ _ _ _ (loop .at) (loop .i) (loop .inv .1) (omega arith) (omega arith)
 
 pub legal-spec : {M : Type 1} → statement M
 legal-spec =

@@ -7,17 +7,17 @@ use Rattle.listing.specs.Text.{said}
 use Rattle.listing.proofs.lines.planned.Statement.{statement}
 use Rattle.listing.proofs.lines.planned.Tie as tie
 
-slice-aggregate-counts : tie.Need-slice-aggregate-counts
-slice-aggregate-counts c = search needs
+slice-aggregate-range : tie.Need-slice-aggregate-range
+slice-aggregate-range c = search needs
 
-counts-requires : tie.Need-counts-requires
-counts-requires c κs = search needs
+range-requires : tie.Need-range-requires
+range-requires c κs = search needs
 
-slice-aggregate-counts-2 : tie.Need-slice-aggregate-counts-2
-slice-aggregate-counts-2 c = search needs
+slice-aggregate-range-2 : tie.Need-slice-aggregate-range-2
+slice-aggregate-range-2 c = search needs
 
-counts-requires-2 : tie.Need-counts-requires-2
-counts-requires-2 c κs = search needs
+range-requires-2 : tie.Need-range-requires-2
+range-requires-2 c κs = search needs
 
 rows-requires : tie.Need-rows-requires
 rows-requires c κs = search needs
@@ -32,18 +32,18 @@ returns c =
     let second = rows .before .before .before .before in
     let first = second .before .before .before .before .before in
     let start = first .before .before .before .before .before in (
-      then (first .counts .ensures) (then (second .counts2 .ensures) (rows .rows .ensures .0)),
-      λ wide. planned-short _ _ _ _ _ (omega (arith, start .good)) (omega (arith, start .good)) (rows .rows .ensures .1 wide),
+      then (first .range .ensures) (then (second .range2 .ensures) (rows .rows .ensures .0)),
+      λ wide. planned-short _ _ _ _ (omega (arith, start .good)) (omega (arith, start .good)) (rows .rows .ensures .1 wide),
     )
 
 pub planned-spec : {M : Type 1} → statement M
 planned-spec =
     tie.close
     (tie.spec
-    slice-aggregate-counts
-    counts-requires
-    slice-aggregate-counts-2
-    counts-requires-2
+    slice-aggregate-range
+    range-requires
+    slice-aggregate-range-2
+    range-requires-2
     rows-requires
     same-length
     returns)

@@ -1,11 +1,37 @@
--- `listing::lines::refused` meets its contract: it is a line of two fields (`Fields`).
+-- `listing::lines::refused` meets its contract: a line of two fields, or of four for 31 (`Fields`).
+use Prim.Native.Nat.{ℕ}
 use native.Mathlib.Omega.{arith}
+use mathlib.Core.List.{[], _∷_}
+use mathlib.Core.Path.{_≡_}
 use borrow.Author.Needs.{needs}
+use borrow.Author.Tests.{eq-eqb, ne-eqb}
+use Rattle.refusals.specs.Numbers.{number, slot}
+use Rattle.refusals.specs.declared.Refusal.{Refusal}
 use Rattle.listing.proofs.Fields.{fields}
-use Rattle.listing.proofs.Lengths.{refused-short}
-use Rattle.listing.specs.Text.{refusal}
+use Rattle.listing.proofs.Lengths.{alone-short, with-slot-short}
+use Rattle.listing.specs.Text.{ascii, decimal, line, refusal}
 use Rattle.listing.proofs.lines.refused.Statement.{statement}
 use Rattle.listing.proofs.lines.refused.Tie as tie
+
+module _ (r : Refusal) {code : ℕ} (is : code ≡ number r) where
+  of-number : (code ≡ 31 → ⊥) → refusal r ≡ line (ascii "refused" ∷ decimal code ∷ [])
+  unfolding refusal
+  of-number n = rw (← is, ne-eqb code 31 n)
+
+  of-slot : {i : ℕ} → i ≡ slot r → code ≡ 31 →
+      refusal r ≡ line (ascii "refused" ∷ decimal code ∷ ascii "slot" ∷ decimal i ∷ [])
+  unfolding refusal
+  of-slot at e = rw (← is, eq-eqb code 31 e, ← at)
+
+-- back to the number, and to what was refused
+abbrev numbered : tie.After-slice-known2 → tie.After-number
+numbered c = c .before .before .before .before .before
+
+abbrev refused : tie.After-number → Refusal
+refused c = c .before .before .args .refusal
+
+number-requires : tie.Need-number-requires
+number-requires c κs = search needs
 
 slice-aggregate-word : tie.Need-slice-aggregate-word
 slice-aggregate-word c = search needs
@@ -13,16 +39,66 @@ slice-aggregate-word c = search needs
 word-requires : tie.Need-word-requires
 word-requires c κs = search needs
 
-number-requires : tie.Need-number-requires
-number-requires c κs = search needs
+cast-number : tie.Need-cast-number
+cast-number c = search needs
+
+number-requires-2 : tie.Need-number-requires-2
+number-requires-2 c κs = search needs
 
 same-length : tie.Need-same-length
 same-length c = search needs
 
 returns : tie.Need-returns
-unfolding refusal
-returns c = (search fields, refused-short _ (omega arith))
+returns c =
+    let tested = c .before .before .before .before in
+    let code = numbered (tested .before) in
+    rw (of-number (refused code) (code .number .ensures) (tested .if1 .taken)) (search fields, alone-short _ (omega arith))
+
+cast-number-2 : tie.Need-cast-number-2
+cast-number-2 c = search needs
+
+number-requires-3 : tie.Need-number-requires-3
+number-requires-3 c κs = search needs
+
+slice-aggregate-word-2 : tie.Need-slice-aggregate-word-2
+slice-aggregate-word-2 c = search needs
+
+word-requires-2 : tie.Need-word-requires-2
+word-requires-2 c κs = search needs
+
+slot-requires : tie.Need-slot-requires
+slot-requires c κs = search needs
+
+number-requires-4 : tie.Need-number-requires-4
+number-requires-4 c κs = search needs
+
+same-length-2 : tie.Need-same-length-2
+same-length-2 c = search needs
+
+returns-2 : tie.Need-returns-2
+returns-2 c =
+    let carried = c .before .before .before .before in
+    let tested = carried .before .before .before .before .before .before .before .before .before .before in
+    let code = numbered (tested .before) in
+    rw (of-slot (refused code) (code .number .ensures) (carried .slot .ensures) (tested .if1 .left))
+    (search fields, with-slot-short _ _ (omega arith) (omega arith))
 
 pub refused-spec : {M : Type 1} → statement M
 refused-spec =
-    tie.close (tie.spec slice-aggregate-word word-requires number-requires same-length returns)
+    tie.close
+    (tie.spec
+    number-requires
+    slice-aggregate-word
+    word-requires
+    cast-number
+    number-requires-2
+    same-length
+    returns
+    cast-number-2
+    number-requires-3
+    slice-aggregate-word-2
+    word-requires-2
+    slot-requires
+    number-requires-4
+    same-length-2
+    returns-2)

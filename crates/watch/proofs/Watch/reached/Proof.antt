@@ -8,11 +8,11 @@ use borrow.Author.Needs.{needs}
 use borrow.Author.Tests.{not-true, not-false}
 use mir.Syntax.{w32}
 use mir.Val.{SFits}
-use Rattle.settings.specs.Refusals.{checked}
+use Rattle.refusals.specs.Answer.{checked}
 use Rattle.rule.specs.Rule.{over}
 use Rattle.watch.proofs.Reaching.{reached→sound}
 use Rattle.watch.proofs.Testing.{no, counted, by-idle, by-alive}
-use Rattle.watch.specs.States.{Reached}
+use Rattle.watch.specs.States.{shapeOf, startRefusal, Reached}
 use Rattle.watch.specs.Tested.{highest, Tallied}
 use Rattle.watch.proofs.Watch.reached.Statement.{statement}
 use Rattle.watch.proofs.Watch.reached.Tie as tie
@@ -24,8 +24,14 @@ entry c = c .before .before .before .before
 abbrev passed : tie.Else2 → tie.After-enum-told2
 passed c = c .before .before .before .before
 
-check-settings-requires : tie.Need-check-settings-requires
-check-settings-requires c κs = search needs
+shape-requires : tie.Need-shape-requires
+shape-requires c κs = search needs
+
+check-shape-requires : tie.Need-check-shape-requires
+check-shape-requires c κs = search needs
+
+checks : (c : tie.After-check-shape) → checked (c .check-shape .result) ≡ startRefusal (shapeOf (c .before .before .args .self))
+checks c = c .check-shape .ensures ∙ ap startRefusal (c .before .shape .ensures)
 
 enum-told : tie.Need-enum-told
 enum-told c = search needs
@@ -35,8 +41,8 @@ returns c = no refuses
   where
     refuses : Reached (c .before .before .before .before .args .self) → ⊥
     refuses re =
-        let is = c .before .before .check-settings .ensures in
-        Option·some-ne-none _ (sym (ap checked (c .enum-told .given .1)) ∙ is ∙ reached→sound _ re .accepted)
+        Option·some-ne-none _
+        (sym (ap checked (c .enum-told .given .1)) ∙ checks (c .before .before) ∙ reached→sound _ re .accepted)
 
 enum-told-2 : tie.Need-enum-told-2
 enum-told-2 c = search needs
@@ -59,7 +65,7 @@ returns-4 c = no shut
 tallied : (c : tie.Else2) → Tallied (entry (passed c) .args .self)
 tallied c =
     record {
-      accepted = sym (passed c .before .before .check-settings .ensures) ∙ ap checked (passed c .enum-told2 .given .1);
+      accepted = sym (checks (passed c .before .before)) ∙ ap checked (passed c .enum-told2 .given .1);
       counted = c .if2 .left;
       few = c .before .before .if1 .left;
     }
@@ -67,8 +73,8 @@ tallied c =
 opens : (c : tie.Else3) → let w = entry (passed (c .before .before)) .args .self in (w .windows ≡ 0) ⊎ (over (w .k) highest ≡ true)
 opens c = c .before .may-open .ensures .0 (not-false _ (c .if3 .left))
 
-fits : (c : tie.After-enum-told2) → SFits w32 (entry c .args .self .k)
-fits c = record { sfits = c .before .before .before .struct-told .given .0 .1 }
+fits : (c : tie.Else2) → SFits w32 (entry (passed c) .args .self .k)
+fits c = record { sfits = entry (passed c) .good .0 .1 .1 .0 .1 }
 
 idle-requires : tie.Need-idle-requires
 idle-requires c κs = (tallied (c .before .before .before .before), c .if4 .taken)
@@ -76,7 +82,7 @@ idle-requires c κs = (tallied (c .before .before .before .before), c .if4 .take
 returns-5 : tie.Need-returns-5
 returns-5 c =
     let k = c .before .before .before in
-    by-idle (fits (passed (k .before .before))) (tallied (k .before .before)) (opens k) (c .before .if4 .taken) (c .idle .ensures)
+    by-idle (fits (k .before .before)) (tallied (k .before .before)) (opens k) (c .before .if4 .taken) (c .idle .ensures)
 
 alive-requires : tie.Need-alive-requires
 alive-requires c κs = (tallied (c .before .before .before .before), omega (arith, c .if4 .left))
@@ -84,13 +90,14 @@ alive-requires c κs = (tallied (c .before .before .before .before), omega (arit
 returns-6 : tie.Need-returns-6
 returns-6 c =
     let k = c .before .before .before in
-    by-alive (fits (passed (k .before .before))) (tallied (k .before .before)) (opens k) (c .before .if4 .left) (c .alive .ensures)
+    by-alive (fits (k .before .before)) (tallied (k .before .before)) (opens k) (c .before .if4 .left) (c .alive .ensures)
 
 pub reached-spec : {M : Type 1} → statement M
 reached-spec =
     tie.close
     (tie.spec
-    check-settings-requires
+    shape-requires
+    check-shape-requires
     enum-told
     returns
     enum-told-2

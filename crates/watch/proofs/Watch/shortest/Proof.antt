@@ -1,6 +1,7 @@
 -- `watch::Watch::shortest` meets its contract: by whether one slot fills a window.
 use borrow.Author.Needs.{needs}
 use Rattle.watch.proofs.Testing.{by-bridges}
+use Rattle.watch.specs.States.{shapeOf}
 use Rattle.watch.proofs.Watch.shortest.Statement.{statement}
 use Rattle.watch.proofs.Watch.shortest.Tie as tie
 
@@ -14,7 +15,7 @@ returns : tie.Need-returns
 returns c = search needs
 
 returns-2 : tie.Need-returns-2
-returns-2 c = by-bridges _ _ (c .before .before .before .pre) (c .before .if1 .left)
+returns-2 c = by-bridges (shapeOf (c .before .before .before .args .self)) (c .before .before .before .pre) (c .before .if1 .left)
 
 pub shortest-spec : {M : Type 1} → statement M
 shortest-spec = tie.close (tie.spec cast-result add-result returns returns-2)

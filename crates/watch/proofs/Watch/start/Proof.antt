@@ -5,14 +5,14 @@ use Rattle.watch.proofs.Starting.{refused, accepted}
 use Rattle.watch.proofs.Watch.start.Statement.{statement}
 use Rattle.watch.proofs.Watch.start.Tie as tie
 
-check-settings-requires : tie.Need-check-settings-requires
-check-settings-requires c κs = search needs
+check-shape-requires : tie.Need-check-shape-requires
+check-shape-requires c κs = search needs
 
 enum-known-checked : tie.Need-enum-known-checked
 enum-known-checked c = search needs
 
 returns : tie.Need-returns
-returns c = refused _ _ _ (c .before .before .before .check-settings .ensures) (c .before .checked .given .1)
+returns c = refused _ _ (c .before .before .before .check-shape .ensures) (c .before .checked .given .1)
 
 enum-told : tie.Need-enum-told
 enum-told c = search needs
@@ -20,8 +20,8 @@ enum-told c = search needs
 returns-2 : tie.Need-returns-2
 returns-2 c =
     rw (toZ-ofZ (c .before .before .before .fits .k))
-    (accepted _ _ _ (c .before .before .check-settings .ensures) (c .enum-told .given .1))
+    (accepted _ _ (c .before .before .check-shape .ensures) (c .enum-told .given .1))
 
 pub start-spec : {M : Type 1} → statement M
 start-spec =
-    tie.close (tie.spec check-settings-requires enum-known-checked returns enum-told returns-2)
+    tie.close (tie.spec check-shape-requires enum-known-checked returns enum-told returns-2)

@@ -1,9 +1,9 @@
--- `listing::lines::counts` meets its contract: it is a line of three fields (`Fields`).
+-- `listing::lines::range` meets its contract: it is a line of three fields (`Fields`).
 use borrow.Author.Needs.{needs}
 use Rattle.listing.proofs.Fields.{fields}
 use Rattle.listing.specs.Text.{counts}
-use Rattle.listing.proofs.lines.counts.Statement.{statement}
-use Rattle.listing.proofs.lines.counts.Tie as tie
+use Rattle.listing.proofs.lines.range.Statement.{statement}
+use Rattle.listing.proofs.lines.range.Tie as tie
 
 word-requires : tie.Need-word-requires
 word-requires c κs = search needs
@@ -27,8 +27,8 @@ returns : tie.Need-returns
 unfolding counts
 returns c = search fields
 
-pub counts-spec : {M : Type 1} → statement M
-counts-spec =
+pub range-spec : {M : Type 1} → statement M
+range-spec =
     tie.close
     (tie.spec
     word-requires
