@@ -4,15 +4,6 @@ use borrow.Author.Needs.{needs}
 use Rattle.c_api.proofs.icecoppice_judge.Statement.{statement}
 use Rattle.c_api.proofs.icecoppice_judge.Tie as tie
 
-gather-requires : tie.Need-gather-requires
-gather-requires c κs = search needs
-
-judge-requires : tie.Need-judge-requires
-judge-requires c κs = search needs
-
-verdict-numbers-requires : tie.Need-verdict-numbers-requires
-verdict-numbers-requires c κs = search needs
-
 returns : tie.Need-returns
 returns c =
     let start = c .before .before .before .before in
@@ -21,4 +12,4 @@ returns c =
 
 pub icecoppice-judge-spec : {M : Type 1} → statement M
 icecoppice-judge-spec =
-    tie.close (tie.spec gather-requires judge-requires verdict-numbers-requires returns)
+    tie.close (tie.spec (λ c κs. search needs) (λ c κs. search needs) (λ c κs. search needs) returns)

@@ -18,15 +18,6 @@ use Rattle.card.specs.Reading.{lentTooShort, reads}
 use Rattle.card.proofs.read.Statement.{statement}
 use Rattle.card.proofs.read.Tie as tie
 
-open-requires : tie.Need-open-requires
-open-requires c κs = search needs
-
-enum-known-refusal : tie.Need-enum-known-refusal
-enum-known-refusal c = search needs
-
-enum-known-contents : tie.Need-enum-known-contents
-enum-known-contents c = search needs
-
 abbrev start : tie.After-contents → tie.Start
 start c = c .before .before .before .before
 
@@ -63,12 +54,6 @@ returns-3 c =
     let k = c .before in
     nothing-altered _ _ _ (refuses-early _ _ _ (rows-refuse _ (k .before .before .«open» .ensures) (k .refusal .given .1)))
 
-same-length : tie.Need-same-length
-same-length c = search needs
-
-same-length-2 : tie.Need-same-length-2
-same-length-2 c = search needs
-
 returns-4 : tie.Need-returns-4
 unfolding reads lentTooShort
 returns-4 c =
@@ -85,13 +70,13 @@ pub read-spec : {M : Type 1} → statement M
 read-spec =
     tie.close
     (tie.spec
-    open-requires
-    enum-known-refusal
-    enum-known-contents
+    (λ c κs. search needs)
+    (λ c. search needs)
+    (λ c. search needs)
     returns
     returns-2
     fill-requires
     returns-3
-    same-length
-    same-length-2
+    (λ c. search needs)
+    (λ c. search needs)
     returns-4)

@@ -12,26 +12,14 @@ use Rattle.settings.specs.Refusals.{differs, refusal}
 use Rattle.checks.proofs.check_request.Statement.{statement}
 use Rattle.checks.proofs.check_request.Tie as tie
 
-differ-requires : tie.Need-differ-requires
-differ-requires c κs = search needs
-
-check-requires : tie.Need-check-requires
-check-requires c κs = search needs
-
 -- lengths and settings, whichever slice differs
 met : (c : tie.After-check) → let args = c .before .before .args in let n = length (args .lowest .now) in
     checked (c .check .result) ≡ refusal n (differs n (length (args .highest .now)) || args .different) (args .settings)
 met c = rw (← c .before .differ .ensures) (c .check .ensures)
 
-enum-known-checked : tie.Need-enum-known-checked
-enum-known-checked c = search needs
-
 returns : tie.Need-returns
 unfolding Request.requestRefusal
 returns c = given-as-one _ _ _ (met (c .before .before .before)) _ (c .before .checked .given .1)
-
-enum-told : tie.Need-enum-told
-enum-told c = search needs
 
 first-crossed-requires : tie.Need-first-crossed-requires
 first-crossed-requires c κs =
@@ -48,10 +36,10 @@ pub check-request-spec : {M : Type 1} → statement M
 check-request-spec =
     tie.close
     (tie.spec
-    differ-requires
-    check-requires
-    enum-known-checked
+    (λ c κs. search needs)
+    (λ c κs. search needs)
+    (λ c. search needs)
     returns
-    enum-told
+    (λ c. search needs)
     first-crossed-requires
     returns-2)

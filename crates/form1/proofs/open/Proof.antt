@@ -16,18 +16,9 @@ use Rattle.form1.proofs.open.Tie as tie
 met : {o : Option Refusal} {r q : Checked} → checked r ≡ o → r ≡ q → o ≡ checked q
 met is e = sym is ∙ ap checked e
 
-check-requires : tie.Need-check-requires
-check-requires c κs = search needs
-
-enum-known-checked : tie.Need-enum-known-checked
-enum-known-checked c = search needs
-
 returns : tie.Need-returns
 unfolding opening
 returns c = rw (met (c .before .before .before .check .ensures) (c .before .checked .given .1)) refl
-
-enum-told : tie.Need-enum-told
-enum-told c = search needs
 
 -- no row of the file applies
 passing : (c : tie.After-enum-told) → fileRefusal (c .before .before .before .before .args .file .now) ≡ none
@@ -52,10 +43,10 @@ pub open-spec : {M : Type 1} → statement M
 open-spec =
     tie.close
     (tie.spec
-    check-requires
-    enum-known-checked
+    (λ c κs. search needs)
+    (λ c. search needs)
     returns
-    enum-told
+    (λ c. search needs)
     settings-requires
     slots-requires
     start-requires

@@ -18,23 +18,11 @@ returns c =
     let args = c .before .before .args in
     rw (lt-leb (args .place + 8) (length (args .file .now)) (omega arith)) refl
 
-sub-if2 : tie.Need-sub-if2
-sub-if2 c = search needs
-
 returns-2 : tie.Need-returns-2
 unfolding rangeAt
 returns-2 c =
     let args = c .before .before .before .args in
     rw (lt-leb (args .place + 8) (length (args .file .now)) (omega arith)) refl
-
-signed-at-requires : tie.Need-signed-at-requires
-signed-at-requires c κs = search needs
-
-add-signed-at : tie.Need-add-signed-at
-add-signed-at c = search needs
-
-signed-at-requires-2 : tie.Need-signed-at-requires-2
-signed-at-requires-2 c κs = search needs
 
 returns-3 : tie.Need-returns-3
 unfolding rangeAt
@@ -56,9 +44,9 @@ range-at-spec =
     tie.close
     (tie.spec
     returns
-    sub-if2
+    (λ c. search needs)
     returns-2
-    signed-at-requires
-    add-signed-at
-    signed-at-requires-2
+    (λ c κs. search needs)
+    (λ c. search needs)
+    (λ c κs. search needs)
     returns-3)

@@ -11,20 +11,8 @@ use Rattle.settings.specs.Refusals.{limit}
 use Rattle.judge.proofs.judge.Statement.{statement}
 use Rattle.judge.proofs.judge.Tie as tie
 
-differ-requires : tie.Need-differ-requires
-differ-requires c κs = search needs
-
-check-requires : tie.Need-check-requires
-check-requires c κs = search needs
-
-enum-known-checked : tie.Need-enum-known-checked
-enum-known-checked c = search needs
-
 returns : tie.Need-returns
 returns c = search judging depth 7
-
-enum-told : tie.Need-enum-told
-enum-told c = search needs
 
 passed : (c : tie.After-enum-told) → let args = c .before .before .before .before .before .args in
     (length (args .loads .now) ≡ length (args .marks .now)) × (length (args .marks .now) ≤ limit)
@@ -55,11 +43,11 @@ pub judge-spec : {M : Type 1} → statement M
 judge-spec =
     tie.close
     (tie.spec
-    differ-requires
-    check-requires
-    enum-known-checked
+    (λ c κs. search needs)
+    (λ c κs. search needs)
+    (λ c. search needs)
     returns
-    enum-told
+    (λ c. search needs)
     legal-requires
     returns-2
     count-requires

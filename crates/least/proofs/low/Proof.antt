@@ -4,9 +4,6 @@ use Rattle.least.proofs.Lending.{counted, short, first-slots}
 use Rattle.least.proofs.low.Statement.{statement}
 use Rattle.least.proofs.low.Tie as tie
 
-fitting-requires : tie.Need-fitting-requires
-fitting-requires c κs = search needs
-
 slice-aggregate-read-off : tie.Need-slice-aggregate-read-off
 slice-aggregate-read-off c = counted (c .before .before .before .args .classes .now) _ (c .before .fitting .ensures)
 
@@ -19,4 +16,4 @@ returns c =
     (c .read-off .ensures)
 
 pub low-spec : {M : Type 1} → statement M
-low-spec = tie.close (tie.spec fitting-requires slice-aggregate-read-off read-off-requires returns)
+low-spec = tie.close (tie.spec (λ c κs. search needs) slice-aggregate-read-off read-off-requires returns)

@@ -4,9 +4,6 @@ use Rattle.least.proofs.Lending.{counted, short, first-slots}
 use Rattle.least.proofs.rows.Statement.{statement}
 use Rattle.least.proofs.rows.Tie as tie
 
-fitting-requires : tie.Need-fitting-requires
-fitting-requires c κs = search needs
-
 slice-aggregate-fill : tie.Need-slice-aggregate-fill
 slice-aggregate-fill c = counted (c .before .before .before .args .classes .now) _ (c .before .fitting .ensures)
 
@@ -19,4 +16,4 @@ returns c =
     (c .fill .ensures)
 
 pub rows-spec : {M : Type 1} → statement M
-rows-spec = tie.close (tie.spec fitting-requires slice-aggregate-fill fill-requires returns)
+rows-spec = tie.close (tie.spec (λ c κs. search needs) slice-aggregate-fill fill-requires returns)

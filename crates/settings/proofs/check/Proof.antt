@@ -5,21 +5,9 @@ use Rattle.settings.specs.Refusals
 use Rattle.settings.proofs.check.Statement.{statement}
 use Rattle.settings.proofs.check.Tie as tie
 
-check-lengths-requires : tie.Need-check-lengths-requires
-check-lengths-requires c κs = search needs
-
-enum-known-lengths : tie.Need-enum-known-lengths
-enum-known-lengths c = search needs
-
 returns : tie.Need-returns
 unfolding Refusals.refusal
 returns c = search rows depth 9
-
-enum-told : tie.Need-enum-told
-enum-told c = search needs
-
-check-settings-requires : tie.Need-check-settings-requires
-check-settings-requires c κs = search needs
 
 returns-2 : tie.Need-returns-2
 unfolding Refusals.refusal
@@ -29,9 +17,9 @@ pub check-spec : {M : Type 1} → statement M
 check-spec =
     tie.close
     (tie.spec
-    check-lengths-requires
-    enum-known-lengths
+    (λ c κs. search needs)
+    (λ c. search needs)
     returns
-    enum-told
-    check-settings-requires
+    (λ c. search needs)
+    (λ c κs. search needs)
     returns-2)

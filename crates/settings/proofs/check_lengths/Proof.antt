@@ -5,9 +5,6 @@ use Rattle.settings.specs.Refusals
 use Rattle.settings.proofs.check_lengths.Statement.{statement}
 use Rattle.settings.proofs.check_lengths.Tie as tie
 
-wrong-slots-requires : tie.Need-wrong-slots-requires
-wrong-slots-requires c κs = search needs
-
 returns : tie.Need-returns
 unfolding Refusals.lengthsRefusal
 returns c = search rows depth 9
@@ -21,4 +18,4 @@ unfolding Refusals.lengthsRefusal
 returns-3 c = search rows depth 9
 
 pub check-lengths-spec : {M : Type 1} → statement M
-check-lengths-spec = tie.close (tie.spec wrong-slots-requires returns returns-2 returns-3)
+check-lengths-spec = tie.close (tie.spec (λ c κs. search needs) returns returns-2 returns-3)

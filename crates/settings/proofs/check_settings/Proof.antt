@@ -5,28 +5,13 @@ use Rattle.settings.specs.Refusals
 use Rattle.settings.proofs.check_settings.Statement.{statement}
 use Rattle.settings.proofs.check_settings.Tie as tie
 
-check-shape-requires : tie.Need-check-shape-requires
-check-shape-requires c κs = search needs
-
-enum-known-shape : tie.Need-enum-known-shape
-enum-known-shape c = search needs
-
 returns : tie.Need-returns
 unfolding Refusals.settingsRefusal
 returns c = search rows depth 9
 
-enum-told : tie.Need-enum-told
-enum-told c = search needs
-
-wrong-counts-requires : tie.Need-wrong-counts-requires
-wrong-counts-requires c κs = search needs
-
 returns-2 : tie.Need-returns-2
 unfolding Refusals.settingsRefusal
 returns-2 c = search rows depth 9
-
-wrong-counts-requires-2 : tie.Need-wrong-counts-requires-2
-wrong-counts-requires-2 c κs = search needs
 
 returns-3 : tie.Need-returns-3
 unfolding Refusals.settingsRefusal
@@ -40,12 +25,12 @@ pub check-settings-spec : {M : Type 1} → statement M
 check-settings-spec =
     tie.close
     (tie.spec
-    check-shape-requires
-    enum-known-shape
+    (λ c κs. search needs)
+    (λ c. search needs)
     returns
-    enum-told
-    wrong-counts-requires
+    (λ c. search needs)
+    (λ c κs. search needs)
     returns-2
-    wrong-counts-requires-2
+    (λ c κs. search needs)
     returns-3
     returns-4)

@@ -5,15 +5,9 @@ use Rattle.settings.specs.Refusals
 use Rattle.settings.proofs.check_shape.Statement.{statement}
 use Rattle.settings.proofs.check_shape.Tie as tie
 
-wrong-length-requires : tie.Need-wrong-length-requires
-wrong-length-requires c κs = search needs
-
 returns : tie.Need-returns
 unfolding Refusals.shapeRefusal
 returns c = search rows depth 9
-
-wrong-bridges-requires : tie.Need-wrong-bridges-requires
-wrong-bridges-requires c κs = search needs
 
 returns-2 : tie.Need-returns-2
 unfolding Refusals.shapeRefusal
@@ -25,4 +19,4 @@ returns-3 c = search rows depth 9
 
 pub check-shape-spec : {M : Type 1} → statement M
 check-shape-spec =
-    tie.close (tie.spec wrong-length-requires returns wrong-bridges-requires returns-2 returns-3)
+    tie.close (tie.spec (λ c κs. search needs) returns (λ c κs. search needs) returns-2 returns-3)

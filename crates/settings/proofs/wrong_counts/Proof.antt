@@ -5,9 +5,6 @@ use Rattle.settings.specs.Refusals
 use Rattle.settings.proofs.wrong_counts.Statement.{statement}
 use Rattle.settings.proofs.wrong_counts.Tie as tie
 
-cast-result : tie.Need-cast-result
-cast-result c = search needs
-
 returns : tie.Need-returns
 unfolding Refusals.wrongCounts
 returns c = search rules
@@ -17,4 +14,4 @@ unfolding Refusals.wrongCounts
 returns-2 c = search rules
 
 pub wrong-counts-spec : {M : Type 1} → statement M
-wrong-counts-spec = tie.close (tie.spec cast-result returns returns-2)
+wrong-counts-spec = tie.close (tie.spec (λ c. search needs) returns returns-2)

@@ -5,9 +5,6 @@ use Rattle.settings.specs.Refusals
 use Rattle.settings.proofs.wrong_length.Statement.{statement}
 use Rattle.settings.proofs.wrong_length.Tie as tie
 
-cast-result : tie.Need-cast-result
-cast-result c = search needs
-
 returns : tie.Need-returns
 unfolding Refusals.wrongLength
 returns c = search rules
@@ -17,4 +14,4 @@ unfolding Refusals.wrongLength
 returns-2 c = search rules
 
 pub wrong-length-spec : {M : Type 1} → statement M
-wrong-length-spec = tie.close (tie.spec cast-result returns returns-2)
+wrong-length-spec = tie.close (tie.spec (λ c. search needs) returns returns-2)

@@ -15,15 +15,6 @@ use Rattle.card.specs.Reading.{noSlot, looking}
 use Rattle.card.proofs.lookup.look_up.Statement.{statement}
 use Rattle.card.proofs.lookup.look_up.Tie as tie
 
-open-requires : tie.Need-open-requires
-open-requires c κs = search needs
-
-enum-known-refusal : tie.Need-enum-known-refusal
-enum-known-refusal c = search needs
-
-enum-known-contents : tie.Need-enum-known-contents
-enum-known-contents c = search needs
-
 abbrev start : tie.After-contents → tie.Start
 start c = c .before .before .before .before
 
@@ -56,9 +47,6 @@ mul-range-at c = record { fits = omega (arith, there c) }
 add-range-at : tie.Need-add-range-at
 add-range-at c = record { fits = omega (arith, there (c .before)) }
 
-range-at-requires : tie.Need-range-at-requires
-range-at-requires c κs = search needs
-
 returns-2 : tie.Need-returns-2
 unfolding looking
 returns-2 c =
@@ -80,12 +68,12 @@ pub look-up-spec : {M : Type 1} → statement M
 look-up-spec =
     tie.close
     (tie.spec
-    open-requires
-    enum-known-refusal
-    enum-known-contents
+    (λ c κs. search needs)
+    (λ c. search needs)
+    (λ c. search needs)
     returns
     mul-range-at
     add-range-at
-    range-at-requires
+    (λ c κs. search needs)
     returns-2
     returns-3)

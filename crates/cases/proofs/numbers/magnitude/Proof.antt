@@ -14,11 +14,5 @@ add-result c = let n = negative _ (c .before .fits .x) (c .if1 .taken) in omega 
 cast-result-2 : tie.Need-cast-result-2
 cast-result-2 c = let n = not-negative _ (c .before .fits .x) (c .if1 .left) in (n .0, omega arith)
 
-returns : tie.Need-returns
-returns c = search needs
-
-returns-2 : tie.Need-returns-2
-returns-2 c = search needs
-
 pub magnitude-spec : {M : Type 1} → statement M
-magnitude-spec = tie.close (tie.spec cast-result add-result cast-result-2 returns returns-2)
+magnitude-spec = tie.close (tie.spec cast-result add-result cast-result-2 (λ c. search needs) (λ c. search needs))

@@ -6,12 +6,6 @@ use borrow.Author.Needs.{needs}
 use Rattle.exhaustive.proofs.numbers.digit.Statement.{statement}
 use Rattle.exhaustive.proofs.numbers.digit.Tie as tie
 
-add-result : tie.Need-add-result
-add-result c = search needs
-
-rem-result : tie.Need-rem-result
-rem-result c = search needs
-
 cast-result : tie.Need-cast-result
 cast-result c = omega (arith, mod-lt (c .args .x) {m = c .args .most + 1} (omega arith))
 
@@ -19,4 +13,4 @@ returns : tie.Need-returns
 returns c = omega (arith, mod-lt (c .args .x) {m = c .args .most + 1} (omega arith))
 
 pub digit-spec : {M : Type 1} → statement M
-digit-spec = tie.close (tie.spec add-result rem-result cast-result returns)
+digit-spec = tie.close (tie.spec (λ c. search needs) (λ c. search needs) cast-result returns)

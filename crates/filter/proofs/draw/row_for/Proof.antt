@@ -6,15 +6,6 @@ use Rattle.settings.specs.Refusals.{limit}
 use Rattle.filter.proofs.draw.row_for.Statement.{statement}
 use Rattle.filter.proofs.draw.row_for.Tie as tie
 
-returns : tie.Need-returns
-returns c = search needs
-
-add-rows : tie.Need-add-rows
-add-rows c = search needs
-
-rows-requires : tie.Need-rows-requires
-rows-requires c κs = search needs
-
 returns-2 : tie.Need-returns-2
 returns-2 c =
     let classes = c .before .before .before .before .before .before .args .classes .now in
@@ -22,4 +13,4 @@ returns-2 c =
     (behind .wide, (λ opened. behind), (λ n. absurd (n (omega arith))))
 
 pub row-for-spec : {M : Type 1} → statement M
-row-for-spec = tie.close (tie.spec returns add-rows rows-requires returns-2)
+row-for-spec = tie.close (tie.spec (λ c. search needs) (λ c. search needs) (λ c κs. search needs) returns-2)

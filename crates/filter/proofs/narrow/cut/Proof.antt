@@ -15,23 +15,11 @@ lowest-fits c = record { sfits = c .good .1 .1 .0 .1 .1 .0 .1 }
 highest-fits : (c : tie.Start) → SFits w32 (c .args .range .highest)
 highest-fits c = record { sfits = c .good .1 .1 .0 .1 .1 .1 .0 .1 }
 
-enum-told : tie.Need-enum-told
-enum-told c = search needs
-
-enum-told-2 : tie.Need-enum-told-2
-enum-told-2 c = search needs
-
 add-t5 : tie.Need-add-t5
 add-t5 c =
     let start = c .before .before in
     rw (toZ-ofZ (start .fits .k))
     (next-fits (start .fits .k) (highest-fits start) ((rw (c .enum-told2 .given .1) at (start .pre)) .1))
-
-enum-told-3 : tie.Need-enum-told-3
-enum-told-3 c = search needs
-
-returns : tie.Need-returns
-returns c = search needs
 
 returns-2 : tie.Need-returns-2
 returns-2 c =
@@ -47,4 +35,4 @@ returns-3 c =
     rw (c .before .enum-told3 .given .1, toZ-ofZ (start .fits .k), toZ-ofZ (lowest-fits start)) (refl, last-end high)
 
 pub cut-spec : {M : Type 1} → statement M
-cut-spec = tie.close (tie.spec enum-told enum-told-2 add-t5 enum-told-3 returns returns-2 returns-3)
+cut-spec = tie.close (tie.spec (λ c. search needs) (λ c. search needs) add-t5 (λ c. search needs) (λ c. search needs) returns-2 returns-3)

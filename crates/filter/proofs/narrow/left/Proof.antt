@@ -10,9 +10,6 @@ use Rattle.requests.specs.Solution.{possible}
 use Rattle.filter.proofs.narrow.left.Statement.{statement}
 use Rattle.filter.proofs.narrow.left.Tie as tie
 
-array-write-settled : tie.Need-array-write-settled
-array-write-settled c = search needs
-
 array-share-prefix-settled : tie.Need-array-share-prefix-settled
 array-share-prefix-settled c = omega (arith, length-set (c .args .codes) (c .args .i) (c .args .class))
 
@@ -20,9 +17,6 @@ slice-aggregate-low : tie.Need-slice-aggregate-low
 slice-aggregate-low c =
     let args = c .before .args in
     sym (settled-length (args .codes) (args .n) (args .i) (args .class) (omega arith))
-
-low-requires : tie.Need-low-requires
-low-requires c κs = search needs
 
 returns : tie.Need-returns
 unfolding possible
@@ -38,4 +32,4 @@ returns c =
     refl
 
 pub left-spec : {M : Type 1} → statement M
-left-spec = tie.close (tie.spec array-write-settled array-share-prefix-settled slice-aggregate-low low-requires returns)
+left-spec = tie.close (tie.spec (λ c. search needs) array-share-prefix-settled slice-aggregate-low (λ c κs. search needs) returns)

@@ -7,26 +7,14 @@ use Rattle.filter.proofs.Cutting.{settled-loss, losses}
 use Rattle.filter.proofs.narrow.lost.Statement.{statement}
 use Rattle.filter.proofs.narrow.lost.Tie as tie
 
-array-read-if1 : tie.Need-array-read-if1
-array-read-if1 c = search needs
-
-array-read-if2 : tie.Need-array-read-if2
-array-read-if2 c = search needs
-
 returns : tie.Need-returns
 returns c =
     let args = c .before .args in
     settled-loss (args .settings) (args .t2) (args .n) (args .i) (omega arith)
     (⊎-elim (λ t. inl (t .taken)) (λ t. inr (eqb-true _ _ (t .1 .taken))) (c .if1 .came))
 
-left-requires : tie.Need-left-requires
-left-requires c κs = search needs
-
 returns-2 : tie.Need-returns-2
 returns-2 c = search losses depth 7
-
-left-requires-2 : tie.Need-left-requires-2
-left-requires-2 c κs = search needs
 
 returns-3 : tie.Need-returns-3
 returns-3 c = search losses depth 7
@@ -38,11 +26,11 @@ pub lost-spec : {M : Type 1} → statement M
 lost-spec =
     tie.close
     (tie.spec
-    array-read-if1
-    array-read-if2
+    (λ c. search needs)
+    (λ c. search needs)
     returns
-    left-requires
+    (λ c κs. search needs)
     returns-2
-    left-requires-2
+    (λ c κs. search needs)
     returns-3
     returns-4)

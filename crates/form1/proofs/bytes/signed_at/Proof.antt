@@ -8,12 +8,6 @@ use Rattle.form1.specs.Form1.{signedAt}
 use Rattle.form1.proofs.bytes.signed_at.Statement.{statement}
 use Rattle.form1.proofs.bytes.signed_at.Tie as tie
 
-word-requires : tie.Need-word-requires
-word-requires c κs = search needs
-
-signed-requires : tie.Need-signed-requires
-signed-requires c κs = search needs
-
 returns : tie.Need-returns
 unfolding signedAt
 returns c =
@@ -21,4 +15,4 @@ returns c =
     rw (toZ-ofZ fits, c .signed .ensures, c .before .word .ensures) refl
 
 pub signed-at-spec : {M : Type 1} → statement M
-signed-at-spec = tie.close (tie.spec word-requires signed-requires returns)
+signed-at-spec = tie.close (tie.spec (λ c κs. search needs) (λ c κs. search needs) returns)

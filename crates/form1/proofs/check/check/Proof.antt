@@ -6,9 +6,6 @@ use Rattle.form1.specs.Form1
 use Rattle.form1.proofs.check.check.Statement.{statement}
 use Rattle.form1.proofs.check.check.Tie as tie
 
-wrong-size-requires : tie.Need-wrong-size-requires
-wrong-size-requires c κs = search needs
-
 returns : tie.Need-returns
 unfolding Form1.fileRefusal
 returns c = search rows depth 9
@@ -56,7 +53,7 @@ pub check-spec : {M : Type 1} → statement M
 check-spec =
     tie.close
     (tie.spec
-    wrong-size-requires
+    (λ c κs. search needs)
     returns
     wrong-end-requires
     returns-2

@@ -5,18 +5,9 @@ use Rattle.form1.specs.Form1
 use Rattle.form1.proofs.check.wrong_distance.Statement.{statement}
 use Rattle.form1.proofs.check.wrong_distance.Tie as tie
 
-distance-requires : tie.Need-distance-requires
-distance-requires c κs = search needs
-
-slots-requires : tie.Need-slots-requires
-slots-requires c κs = search needs
-
-mul-result : tie.Need-mul-result
-mul-result c = search needs
-
 returns : tie.Need-returns
 unfolding Form1.wrongDistance
 returns c = rw (c .before .distance .ensures, c .slots .ensures .0) refl
 
 pub wrong-distance-spec : {M : Type 1} → statement M
-wrong-distance-spec = tie.close (tie.spec distance-requires slots-requires mul-result returns)
+wrong-distance-spec = tie.close (tie.spec (λ c κs. search needs) (λ c κs. search needs) (λ c. search needs) returns)

@@ -5,12 +5,6 @@ use Rattle.form1.specs.Form1
 use Rattle.form1.proofs.check.wrong_end.Statement.{statement}
 use Rattle.form1.proofs.check.wrong_end.Tie as tie
 
-byte-requires : tie.Need-byte-requires
-byte-requires c κs = search needs
-
-byte-requires-2 : tie.Need-byte-requires-2
-byte-requires-2 c κs = search needs
-
 returns : tie.Need-returns
 unfolding Form1.wrongEnd
 returns c = rw (← c .before .before .byte .ensures, ← c .before .byte2 .ensures) (search rules)
@@ -20,4 +14,4 @@ unfolding Form1.wrongEnd
 returns-2 c = rw (← c .before .before .byte .ensures, ← c .before .byte2 .ensures) (search rules)
 
 pub wrong-end-spec : {M : Type 1} → statement M
-wrong-end-spec = tie.close (tie.spec byte-requires byte-requires-2 returns returns-2)
+wrong-end-spec = tie.close (tie.spec (λ c κs. search needs) (λ c κs. search needs) returns returns-2)

@@ -5,12 +5,9 @@ use Rattle.form1.specs.Form1
 use Rattle.form1.proofs.check.wrong_form.Statement.{statement}
 use Rattle.form1.proofs.check.wrong_form.Tie as tie
 
-byte-requires : tie.Need-byte-requires
-byte-requires c κs = search needs
-
 returns : tie.Need-returns
 unfolding Form1.wrongForm Form1.form
 returns c = rw (c .byte .ensures) refl
 
 pub wrong-form-spec : {M : Type 1} → statement M
-wrong-form-spec = tie.close (tie.spec byte-requires returns)
+wrong-form-spec = tie.close (tie.spec (λ c κs. search needs) returns)

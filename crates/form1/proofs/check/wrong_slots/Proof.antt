@@ -5,9 +5,6 @@ use Rattle.form1.specs.Form1
 use Rattle.form1.proofs.check.wrong_slots.Statement.{statement}
 use Rattle.form1.proofs.check.wrong_slots.Tie as tie
 
-slots-requires : tie.Need-slots-requires
-slots-requires c κs = search needs
-
 returns : tie.Need-returns
 unfolding Form1.wrongSlots
 returns c = rw (← c .before .slots .ensures .0) (search rules)
@@ -17,4 +14,4 @@ unfolding Form1.wrongSlots
 returns-2 c = rw (← c .before .slots .ensures .0) (search rules)
 
 pub wrong-slots-spec : {M : Type 1} → statement M
-wrong-slots-spec = tie.close (tie.spec slots-requires returns returns-2)
+wrong-slots-spec = tie.close (tie.spec (λ c κs. search needs) returns returns-2)

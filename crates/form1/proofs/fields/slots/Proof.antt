@@ -4,15 +4,9 @@ use Rattle.form1.specs.Form1
 use Rattle.form1.proofs.fields.slots.Statement.{statement}
 use Rattle.form1.proofs.fields.slots.Tie as tie
 
-byte-requires : tie.Need-byte-requires
-byte-requires c κs = search needs
-
-cast-result : tie.Need-cast-result
-cast-result c = search needs
-
 returns : tie.Need-returns
 unfolding Form1.slots
 returns c = (c .byte .ensures, c .byte .ok)
 
 pub slots-spec : {M : Type 1} → statement M
-slots-spec = tie.close (tie.spec byte-requires cast-result returns)
+slots-spec = tie.close (tie.spec (λ c κs. search needs) (λ c. search needs) returns)

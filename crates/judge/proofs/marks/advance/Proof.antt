@@ -5,15 +5,6 @@ use Rattle.rule.specs.Reading
 use Rattle.judge.proofs.marks.advance.Statement.{statement}
 use Rattle.judge.proofs.marks.advance.Tie as tie
 
-add-t4 : tie.Need-add-t4
-add-t4 c = search needs
-
-add-t5 : tie.Need-add-t5
-add-t5 c = search needs
-
-add-t6 : tie.Need-add-t6
-add-t6 c = search needs
-
 returns : tie.Need-returns
 unfolding Reading.slotsAfter Reading.bridgesAfter
 returns c = rw (c .match .keys1)
@@ -36,4 +27,4 @@ returns-5 c = search rules
 
 pub advance-spec : {M : Type 1} → statement M
 advance-spec =
-    tie.close (tie.spec add-t4 add-t5 add-t6 returns returns-2 returns-3 returns-4 returns-5)
+    tie.close (tie.spec (λ c. search needs) (λ c. search needs) (λ c. search needs) returns returns-2 returns-3 returns-4 returns-5)

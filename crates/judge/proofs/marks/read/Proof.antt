@@ -4,20 +4,11 @@ use Rattle.judge.proofs.Steps.{steps}
 use Rattle.judge.proofs.marks.read.Statement.{statement}
 use Rattle.judge.proofs.marks.read.Tie as tie
 
-goes-with-requires : tie.Need-goes-with-requires
-goes-with-requires c κs = search needs
-
 returns : tie.Need-returns
 returns c = search steps depth 7
 
-may-follow-requires : tie.Need-may-follow-requires
-may-follow-requires c κs = search needs
-
 returns-2 : tie.Need-returns-2
 returns-2 c = search steps depth 7
-
-advance-requires : tie.Need-advance-requires
-advance-requires c κs = search needs
 
 returns-3 : tie.Need-returns-3
 returns-3 c = search steps depth 7
@@ -32,11 +23,11 @@ pub read-spec : {M : Type 1} → statement M
 read-spec =
     tie.close
     (tie.spec
-    goes-with-requires
+    (λ c κs. search needs)
     returns
-    may-follow-requires
+    (λ c κs. search needs)
     returns-2
-    advance-requires
+    (λ c κs. search needs)
     returns-3
     returns-4
     returns-5)

@@ -14,20 +14,11 @@ below c = negative _ (c .before .before .fits .x) (c .if1 .taken)
 above : (c : tie.Else1) → NotNegative (c .before .before .args .x)
 above c = not-negative _ (c .before .before .fits .x) (c .if1 .left)
 
-byte-requires : tie.Need-byte-requires
-byte-requires c κs = search needs
-
 cast-number : tie.Need-cast-number
 cast-number c = let n = below (c .before .before .before .before) in (n .0, omega arith)
 
 add-number : tie.Need-add-number
 add-number c = let n = below (c .before .before .before .before) in omega arith
-
-number-requires : tie.Need-number-requires
-number-requires c κs = search needs
-
-same-length : tie.Need-same-length
-same-length c = search needs
 
 returns : tie.Need-returns
 returns c =
@@ -37,12 +28,6 @@ returns c =
 cast-number-2 : tie.Need-cast-number-2
 cast-number-2 c = let n = above c in (n .0, omega arith)
 
-number-requires-2 : tie.Need-number-requires-2
-number-requires-2 c κs = search needs
-
-same-length-2 : tie.Need-same-length-2
-same-length-2 c = search needs
-
 returns-2 : tie.Need-returns-2
 returns-2 c = rw (without (above (c .before .before .before .before) .2)) (c .before .before .number2 .ensures)
 
@@ -50,13 +35,13 @@ pub signed-spec : {M : Type 1} → statement M
 signed-spec =
     tie.close
     (tie.spec
-    byte-requires
+    (λ c κs. search needs)
     cast-number
     add-number
-    number-requires
-    same-length
+    (λ c κs. search needs)
+    (λ c. search needs)
     returns
     cast-number-2
-    number-requires-2
-    same-length-2
+    (λ c κs. search needs)
+    (λ c. search needs)
     returns-2)

@@ -12,9 +12,6 @@ use Rattle.refusals.specs.declared.Refusal.the-variants.{WindowCounts, C
 use Rattle.refusals.proofs.Refusal.slot.Statement.{statement}
 use Rattle.refusals.proofs.Refusal.slot.Tie as tie
 
-enum-known-self : tie.Need-enum-known-self
-enum-known-self c = search needs
-
 returns : tie.Need-returns
 returns c = ap slot (sym (c .before .self .given .1))
 
@@ -45,4 +42,4 @@ returns-2 : tie.Need-returns-2
 returns-2 c = none-carried (c .before .args .self) (λ e. miss others 14 tt (rw e at (c .match .keys2)))
 
 pub slot-spec : {M : Type 1} → statement M
-slot-spec = tie.close (tie.spec enum-known-self returns returns-2)
+slot-spec = tie.close (tie.spec (λ c. search needs) returns returns-2)

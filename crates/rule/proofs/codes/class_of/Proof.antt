@@ -10,9 +10,6 @@ use Rattle.rule.specs.Codes.{code}
 use Rattle.rule.proofs.codes.class_of.Statement.{statement}
 use Rattle.rule.proofs.codes.class_of.Tie as tie
 
-over-requires : tie.Need-over-requires
-over-requires c κs = search needs
-
 -- both ends are loads of 32 bits
 low : (c : tie.After-over) → let s = c .before .before in over (s .args .k) (s .args .range .lowest) ≡ c .over .result
 low c =
@@ -22,9 +19,6 @@ low c =
 
 returns : tie.Need-returns
 returns c = sym (ap code (class-over _ _ (low (c .before) ∙ c .if1 .taken)))
-
-over-requires-2 : tie.Need-over-requires-2
-over-requires-2 c κs = search needs
 
 high : (c : tie.After-over2) →
     let s = c .before .before .before .before .before in over (s .args .k) (s .args .range .highest) ≡ c .over2 .result
@@ -44,4 +38,4 @@ returns-3 c =
     sym (ap code (class-under _ _ (low (first .before) ∙ first .if1 .left) (high (c .before) ∙ c .if2 .left)))
 
 pub class-of-spec : {M : Type 1} → statement M
-class-of-spec = tie.close (tie.spec over-requires returns over-requires-2 returns-2 returns-3)
+class-of-spec = tie.close (tie.spec (λ c κs. search needs) returns (λ c κs. search needs) returns-2 returns-3)

@@ -9,25 +9,16 @@ use Rattle.watch.proofs.Leading.{behind-over, behind-under}
 use Rattle.watch.proofs.Watch.after.Statement.{statement}
 use Rattle.watch.proofs.Watch.after.Tie as tie
 
-over-requires : tie.Need-over-requires
-over-requires c κs = search needs
-
 side : (c : tie.After-over) → let args = c .before .before .args in c .over .result ≡ over (args .self .k) (args .load)
 side c =
     let k : SFits w32 (c .before .before .args .self .k) = record { sfits = c .before .struct-told .given .0 .1 } in
     simp (toZ-ofZ, k, c .before .before .fits .load) at (c .over .ensures)
-
-after-over-requires : tie.Need-after-over-requires
-after-over-requires c κs = search needs
 
 returns : tie.Need-returns
 returns c =
     let s = c .before .before in
     let args = s .before .before .args in
     rw (behind-over (args .self) (args .load) (sym (side s) ∙ c .before .if1 .taken)) (c .after-over .ensures)
-
-after-under-requires : tie.Need-after-under-requires
-after-under-requires c κs = search needs
 
 returns-2 : tie.Need-returns-2
 returns-2 c =
@@ -36,4 +27,4 @@ returns-2 c =
     rw (behind-under (args .self) (args .load) (sym (side s) ∙ c .before .if1 .left)) (c .after-under .ensures)
 
 pub after-spec : {M : Type 1} → statement M
-after-spec = tie.close (tie.spec over-requires after-over-requires returns after-under-requires returns-2)
+after-spec = tie.close (tie.spec (λ c κs. search needs) (λ c κs. search needs) returns (λ c κs. search needs) returns-2)

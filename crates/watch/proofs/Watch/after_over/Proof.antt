@@ -5,25 +5,10 @@ use Rattle.watch.proofs.Leading.{opens, goes-on}
 use Rattle.watch.proofs.Watch.after_over.Statement.{statement}
 use Rattle.watch.proofs.Watch.after_over.Tie as tie
 
-add-moved : tie.Need-add-moved
-add-moved c = search needs
-
-sub-moved : tie.Need-sub-moved
-sub-moved c = search needs
-
-moved-requires : tie.Need-moved-requires
-moved-requires c κs = search needs
-
 returns : tie.Need-returns
 returns c =
     let k = c .before .before .before in
     rw (opens (k .before .before .args .self) (k .if1 .taken)) (c .moved .ensures)
-
-sub-moved-2 : tie.Need-sub-moved-2
-sub-moved-2 c = search needs
-
-moved-requires-2 : tie.Need-moved-requires-2
-moved-requires-2 c κs = search needs
 
 returns-2 : tie.Need-returns-2
 returns-2 c =
@@ -33,4 +18,4 @@ returns-2 c =
 pub after-over-spec : {M : Type 1} → statement M
 after-over-spec =
     tie.close
-    (tie.spec add-moved sub-moved moved-requires returns sub-moved-2 moved-requires-2 returns-2)
+    (tie.spec (λ c. search needs) (λ c. search needs) (λ c κs. search needs) returns (λ c. search needs) (λ c κs. search needs) returns-2)

@@ -5,9 +5,6 @@ use Rattle.watch.proofs.Leading.{ends, bridges}
 use Rattle.watch.proofs.Watch.after_under.Statement.{statement}
 use Rattle.watch.proofs.Watch.after_under.Tie as tie
 
-moved-requires : tie.Need-moved-requires
-moved-requires c κs = search needs
-
 returns : tie.Need-returns
 returns c =
     let k = c .before in
@@ -16,12 +13,6 @@ returns c =
 sub-moved : tie.Need-sub-moved
 sub-moved c = c .before .before .before .pre .living (omega arith)
 
-sub-moved-2 : tie.Need-sub-moved-2
-sub-moved-2 c = search needs
-
-moved-requires-2 : tie.Need-moved-requires-2
-moved-requires-2 c κs = search needs
-
 returns-2 : tie.Need-returns-2
 returns-2 c =
     let k = c .before .before .before in
@@ -29,4 +20,4 @@ returns-2 c =
 
 pub after-under-spec : {M : Type 1} → statement M
 after-under-spec =
-    tie.close (tie.spec moved-requires returns sub-moved sub-moved-2 moved-requires-2 returns-2)
+    tie.close (tie.spec (λ c κs. search needs) returns sub-moved (λ c. search needs) (λ c κs. search needs) returns-2)

@@ -17,12 +17,6 @@ returns-2 c = no (λ a. omega (arith, a .slots))
 returns-3 : tie.Need-returns-3
 returns-3 c = no (λ a. omega (arith, a .bridges))
 
-sub-before : tie.Need-sub-before
-sub-before c = search needs
-
-shortest-requires : tie.Need-shortest-requires
-shortest-requires c κs = search needs
-
 abbrev entry : tie.After-struct-known4 → tie.Start
 entry c = c .before .before .before .before .before .before .before
 
@@ -31,9 +25,6 @@ bounded c = rw (c .shortest .ensures) (small (entry (c .before) .pre .0) (entry 
 
 mul-before : tie.Need-mul-before
 mul-before c = omega (arith, bounded c)
-
-sub-fits : tie.Need-sub-fits
-sub-fits c = search needs
 
 fits-requires : tie.Need-fits-requires
 fits-requires c κs = bounded (c .before .before)
@@ -54,9 +45,9 @@ alive-spec =
     returns
     returns-2
     returns-3
-    sub-before
-    shortest-requires
+    (λ c. search needs)
+    (λ c κs. search needs)
     mul-before
-    sub-fits
+    (λ c. search needs)
     fits-requires
     returns-4)

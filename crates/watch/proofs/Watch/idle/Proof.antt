@@ -8,9 +8,6 @@ use Rattle.watch.proofs.Watch.idle.Tie as tie
 returns : tie.Need-returns
 returns c = no (λ i. omega (arith, i .bridges))
 
-shortest-requires : tie.Need-shortest-requires
-shortest-requires c κs = search needs
-
 mul-result : tie.Need-mul-result
 mul-result c =
     let s = c .before .before .before .before in
@@ -22,4 +19,4 @@ returns-2 c =
     (compares _ _ (λ h. record { slots = omega arith; bridges = omega arith; each = h }) (λ i. i .each))
 
 pub idle-spec : {M : Type 1} → statement M
-idle-spec = tie.close (tie.spec returns shortest-requires mul-result returns-2)
+idle-spec = tie.close (tie.spec returns (λ c κs. search needs) mul-result returns-2)

@@ -13,9 +13,6 @@ use Rattle.watch.proofs.Watch.may_open.Tie as tie
 returns : tie.Need-returns
 returns c = (λ e. inl (c .if1 .taken), λ o. refl)
 
-over-requires : tie.Need-over-requires
-over-requires c κs = search needs
-
 side : (c : tie.After-over) → c .over .result ≡ over (c .before .before .before .before .args .self .k) highest
 side c =
     let k : SFits w32 (c .before .before .before .before .args .self .k) = record { sfits = c .before .struct-told .given .0 .1 } in
@@ -25,4 +22,4 @@ returns-2 : tie.Need-returns-2
 returns-2 c = rw (side c) (λ e. inr e, ⊎-elim (λ none. absurd (c .before .before .if1 .left none)) (λ o. o))
 
 pub may-open-spec : {M : Type 1} → statement M
-may-open-spec = tie.close (tie.spec returns over-requires returns-2)
+may-open-spec = tie.close (tie.spec returns (λ c κs. search needs) returns-2)

@@ -4,9 +4,6 @@ use Rattle.facts.proofs.Rules.{rules}
 use Rattle.watch.proofs.Watch.moved.Statement.{statement}
 use Rattle.watch.proofs.Watch.moved.Tie as tie
 
-add-t9 : tie.Need-add-t9
-add-t9 c = search needs
-
 returns : tie.Need-returns
 returns c = search rules
 
@@ -14,4 +11,4 @@ returns-2 : tie.Need-returns-2
 returns-2 c = search rules
 
 pub moved-spec : {M : Type 1} → statement M
-moved-spec = tie.close (tie.spec add-t9 returns returns-2)
+moved-spec = tie.close (tie.spec (λ c. search needs) returns returns-2)

@@ -24,17 +24,8 @@ entry c = c .before .before .before .before
 abbrev passed : tie.Else2 → tie.After-enum-told2
 passed c = c .before .before .before .before
 
-shape-requires : tie.Need-shape-requires
-shape-requires c κs = search needs
-
-check-shape-requires : tie.Need-check-shape-requires
-check-shape-requires c κs = search needs
-
 checks : (c : tie.After-check-shape) → checked (c .check-shape .result) ≡ startRefusal (shapeOf (c .before .before .args .self))
 checks c = c .check-shape .ensures ∙ ap startRefusal (c .before .shape .ensures)
-
-enum-told : tie.Need-enum-told
-enum-told c = search needs
 
 returns : tie.Need-returns
 returns c = no refuses
@@ -44,17 +35,11 @@ returns c = no refuses
         Option·some-ne-none _
         (sym (ap checked (c .enum-told .given .1)) ∙ checks (c .before .before) ∙ reached→sound _ re .accepted)
 
-enum-told-2 : tie.Need-enum-told-2
-enum-told-2 c = search needs
-
 returns-2 : tie.Need-returns-2
 returns-2 c = no (λ re. omega (arith, reached→sound _ re .few))
 
 returns-3 : tie.Need-returns-3
 returns-3 c = no (λ re. omega (arith, counted (reached→sound _ re)))
-
-may-open-requires : tie.Need-may-open-requires
-may-open-requires c κs = search needs
 
 returns-4 : tie.Need-returns-4
 returns-4 c = no shut
@@ -96,14 +81,14 @@ pub reached-spec : {M : Type 1} → statement M
 reached-spec =
     tie.close
     (tie.spec
-    shape-requires
-    check-shape-requires
-    enum-told
+    (λ c κs. search needs)
+    (λ c κs. search needs)
+    (λ c. search needs)
     returns
-    enum-told-2
+    (λ c. search needs)
     returns-2
     returns-3
-    may-open-requires
+    (λ c κs. search needs)
     returns-4
     idle-requires
     returns-5

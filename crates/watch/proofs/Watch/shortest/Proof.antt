@@ -5,17 +5,8 @@ use Rattle.watch.specs.States.{shapeOf}
 use Rattle.watch.proofs.Watch.shortest.Statement.{statement}
 use Rattle.watch.proofs.Watch.shortest.Tie as tie
 
-cast-result : tie.Need-cast-result
-cast-result c = search needs
-
-add-result : tie.Need-add-result
-add-result c = search needs
-
-returns : tie.Need-returns
-returns c = search needs
-
 returns-2 : tie.Need-returns-2
 returns-2 c = by-bridges (shapeOf (c .before .before .before .args .self)) (c .before .before .before .pre) (c .before .if1 .left)
 
 pub shortest-spec : {M : Type 1} → statement M
-shortest-spec = tie.close (tie.spec cast-result add-result returns returns-2)
+shortest-spec = tie.close (tie.spec (λ c. search needs) (λ c. search needs) (λ c. search needs) returns-2)

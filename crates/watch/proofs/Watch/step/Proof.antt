@@ -15,12 +15,6 @@ use Rattle.watch.specs.States.{most, Reached}
 use Rattle.watch.proofs.Watch.step.Statement.{statement}
 use Rattle.watch.proofs.Watch.step.Tie as tie
 
-reached-requires : tie.Need-reached-requires
-reached-requires c κs = search needs
-
-refused-requires : tie.Need-refused-requires
-refused-requires c κs = search needs
-
 returns : tie.Need-returns
 returns c = refuses-32 _ _ _ unreached (c .refused .ensures .0) (c .refused .ensures .1)
   where
@@ -29,9 +23,6 @@ returns c = refuses-32 _ _ _ unreached (c .refused .ensures .0) (c .refused .ens
 
 reached : (c : tie.Else1) → Reached (c .before .before .args .self)
 reached c = c .before .reached .ensures .0 (not-false _ (c .if1 .left))
-
-refused-requires-2 : tie.Need-refused-requires-2
-refused-requires-2 c κs = search needs
 
 returns-2 : tie.Need-returns-2
 returns-2 c =
@@ -54,10 +45,10 @@ pub step-spec : {M : Type 1} → statement M
 step-spec =
     tie.close
     (tie.spec
-    reached-requires
-    refused-requires
+    (λ c κs. search needs)
+    (λ c κs. search needs)
     returns
-    refused-requires-2
+    (λ c κs. search needs)
     returns-2
     after-requires
     returns-3)

@@ -8,11 +8,8 @@ use Rattle.watch.proofs.reached.fits.Tie as tie
 returns : tie.Need-returns
 returns c = no (λ p. omega (arith, p))
 
-add-result : tie.Need-add-result
-add-result c = search needs
-
 returns-2 : tie.Need-returns-2
 returns-2 c = compares _ _ (λ h. (omega arith, h)) (λ p. p .1)
 
 pub fits-spec : {M : Type 1} → statement M
-fits-spec = tie.close (tie.spec returns add-result returns-2)
+fits-spec = tie.close (tie.spec returns (λ c. search needs) returns-2)
