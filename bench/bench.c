@@ -124,7 +124,7 @@ static void print_times(enum kind kind, size_t n)
     printf("%-12s %5zu %12.2f %12.2f %8.2f\n", kind_names[kind], n, l / 1000, p / 1000, l / p);
 }
 
-/* The stack of a call is measured on a stack of its own, painted beforehand. */
+/* The stack that a call uses is measured on a stack of its own, filled with PAINT beforehand. */
 enum { STACK = 1 << 18, PAINT = 0xa5 };
 static unsigned char stack[STACK];
 static ucontext_t caller, callee;

@@ -18,7 +18,7 @@ struct row {
     uint16_t least[ICECOPPICE_SLOTS + 1];
 };
 
-struct low {
+struct least_counts {
     uint16_t windows, covered;
 };
 
@@ -32,13 +32,17 @@ static uint16_t capped_sum(uint16_t a, uint16_t b)
     return a > NONE - b ? NONE : (uint16_t)(a + b);
 }
 
-/* The least covered count of a window that goes on at slot e, with `room` slots and `bridges` bridges left to it. */
-static uint16_t onward(const struct problem *p, size_t e, uint16_t room, uint16_t bridges, const struct row *behind)
+/*
+ * The least covered count of the slots from e on, where a window under way continues at slot e with `room` slots and
+ * `bridges` bridges left to it, and the row `after` counts the slots after it.
+ */
+static uint16_t least_inside(const struct problem *p, size_t e, uint16_t room, uint16_t bridges,
+                             const struct row *after)
 {
     uint16_t best = NONE;
     for (uint16_t used = 1; e < p->n && room > 0; used++, e++, room--) {
         if (p->classes[e] != UNDER) {
-            best = smaller(best, capped_sum(used, behind->least[e + 1]));
+            best = smaller(best, capped_sum(used, after->least[e + 1]));
         } else if (bridges == 0) {
             break;
         } else {
@@ -48,13 +52,13 @@ static uint16_t onward(const struct problem *p, size_t e, uint16_t room, uint16_
     return best;
 }
 
-/* The row for one window more than `behind`. */
-static void next_row(const struct problem *p, const struct row *behind, struct row *row)
+/* The row for one window more than `after`. */
+static void next_row(const struct problem *p, const struct row *after, struct row *row)
 {
     row->least[p->n] = 0;
     for (size_t j = p->n; j-- > 0;) {
         if (p->classes[j] == OVER) {
-            uint16_t rest = smaller(behind->least[j + 1], onward(p, j + 1, p->len - 1, p->h, behind));
+            uint16_t rest = smaller(after->least[j + 1], least_inside(p, j + 1, p->len - 1, p->h, after));
             row->least[j] = capped_sum(1, rest);
         } else {
             row->least[j] = row->least[j + 1];
@@ -62,34 +66,37 @@ static void next_row(const struct problem *p, const struct row *behind, struct r
     }
 }
 
-/* Sets behind to the row for w - 1 windows. Answers for how few windows there is no plan within the covered maximum. */
-static uint16_t rows(const struct problem *p, uint16_t w, struct row *behind)
+/*
+ * Sets `after` to the row for w - 1 windows. Gives how many of the window counts 0 to w - 1 are too few for a plan
+ * within the covered maximum.
+ */
+static uint16_t rows(const struct problem *p, uint16_t w, struct row *after)
 {
     uint16_t exceeding = 0;
     for (size_t j = 0; j <= p->n; j++)
-        behind->least[j] = NONE;
+        after->least[j] = NONE;
     for (uint16_t i = 0; i < w; i++) {
         struct row row;
-        next_row(p, behind, &row);
-        *behind = row;
+        next_row(p, after, &row);
+        *after = row;
         exceeding += row.least[0] > p->covered_most;
     }
     return exceeding;
 }
 
-static struct low low(const struct problem *p)
+static struct least_counts least_counts(const struct problem *p)
 {
-    struct row behind, row;
-    uint16_t windows = rows(p, p->windows_most, &behind);
-    next_row(p, &behind, &row);
-    return (struct low){windows, row.least[0]};
+    struct row after, row;
+    uint16_t windows = rows(p, p->windows_most, &after);
+    next_row(p, &after, &row);
+    return (struct least_counts){windows, row.least[0]};
 }
 
 static bool plan_left(const struct problem *p, size_t slot, enum slot_class settled)
 {
     struct problem changed = *p;
     changed.classes[slot] = settled;
-    return low(&changed).covered <= p->covered_most;
+    return least_counts(&changed).covered <= p->covered_most;
 }
 
 static void narrow(const struct problem *p, int32_t k, int32_t *lowest, int32_t *highest)
@@ -109,15 +116,15 @@ static void draw(const struct problem *p, uint8_t *marks)
 {
     uint16_t windows = p->windows_most, covered = p->covered_most;
     bool inside = false;
-    struct row behind;
+    struct row after;
     for (size_t j = 0; j < p->n; j++) {
-        if (inside && marks[j - 1] != ICECOPPICE_BRIDGE && behind.least[j] <= covered)
+        if (inside && marks[j - 1] != ICECOPPICE_BRIDGE && after.least[j] <= covered)
             inside = false;
         if (inside) {
             marks[j] = p->classes[j] == UNDER ? ICECOPPICE_BRIDGE : ICECOPPICE_LATER;
             covered--;
         } else if (p->classes[j] == OVER) {
-            rows(p, windows, &behind);
+            rows(p, windows, &after);
             marks[j] = ICECOPPICE_FIRST;
             windows--;
             covered--;
@@ -173,7 +180,7 @@ struct icecoppice_answer plain_filter(int32_t k, uint16_t len, uint16_t h,
             return (struct icecoppice_answer){.code = ICECOPPICE_CROSSED, .slot = j};
         p.classes[j] = class_of(k, lowest[j], highest[j]);
     }
-    struct low least = low(&p);
+    struct least_counts least = least_counts(&p);
     if (least.covered > covered_most)
         return (struct icecoppice_answer){.code = ICECOPPICE_NO};
     narrow(&p, k, lowest, highest);

@@ -1,4 +1,4 @@
-/* The library's algorithms for the filter and for the watch's step, written plainly in C, to measure it beside them. */
+/* The library's algorithms for the filter and for the watch's step in plain C, to time the library beside them. */
 #ifndef PLAIN_H
 #define PLAIN_H
 

@@ -6,22 +6,22 @@ static bool accepted(const struct icecoppice_watch *w)
 }
 
 /* The least number of slots from a window's opening to the next one's. */
-static uint32_t shortest(const struct icecoppice_watch *w)
+static uint32_t spacing(const struct icecoppice_watch *w)
 {
     return w->len == 1 ? 1 : w->h + 2u;
 }
 
 static bool idle(const struct icecoppice_watch *w)
 {
-    return w->spare == 0 && w->windows * shortest(w) <= w->taken;
+    return w->spare == 0 && w->windows * spacing(w) <= w->taken;
 }
 
-static bool alive(const struct icecoppice_watch *w)
+static bool active(const struct icecoppice_watch *w)
 {
     if (w->windows == 0 || w->room >= w->len || w->spare > w->h)
         return false;
     uint32_t slots = w->len - w->room, bridges = w->h - w->spare;
-    return bridges < slots && (w->windows - 1) * shortest(w) + slots <= w->taken;
+    return bridges < slots && (w->windows - 1) * spacing(w) + slots <= w->taken;
 }
 
 static bool reached(const struct icecoppice_watch *w)
@@ -30,7 +30,7 @@ static bool reached(const struct icecoppice_watch *w)
         return false;
     if (w->windows > 0 && w->k == INT32_MAX)
         return false;
-    return w->room == 0 ? idle(w) : alive(w);
+    return w->room == 0 ? idle(w) : active(w);
 }
 
 static void move(struct icecoppice_watch *w, uint16_t room, uint16_t spare)

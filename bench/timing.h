@@ -1,4 +1,4 @@
-/* A clock, and the middle of what it showed. */
+/* A clock, and the median of the times it measured. */
 #ifndef TIMING_H
 #define TIMING_H
 

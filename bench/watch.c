@@ -16,7 +16,7 @@ static const char *const kind_names[KINDS] = {"under", "over", "alternating", "m
 static int32_t loads[STEPS];
 
 /*
- * under:       all loads under, so that no window is ever alive
+ * under:       all loads under, so that no window is ever active
  * over:        all loads over
  * alternating: even slots over, odd slots under
  * mixed:       over or under by chance
@@ -54,7 +54,7 @@ static struct icecoppice_watch compare_step(const struct icecoppice_watch *w, in
     return x.watch;
 }
 
-/* Every step, then a load too many, then a state that is refused. */
+/* Compares every step, then a load too many, then a state that is refused. */
 static void compare(void)
 {
     struct icecoppice_watch w = start();
@@ -69,10 +69,10 @@ static void compare(void)
 static double time_steps(step *s)
 {
     struct icecoppice_watch w = start();
-    double begun = now();
+    double start_time = now();
     for (size_t j = 0; j < STEPS; j++)
         w = s(w, loads[j]).watch;
-    return (now() - begun) / STEPS;
+    return (now() - start_time) / STEPS;
 }
 
 static void print_times(enum kind kind)

@@ -1,6 +1,6 @@
 #!/usr/bin/env bash
-# Holds the plan printer to a stored output for every card of examples/, and the cards to their text. Case A is also the stored
-# run of the crate printer.
+# Holds the plan printer to a stored output for every card of examples/, and the cards to their text. Case A is also
+# the stored run of the crate printer.
 set -euo pipefail
 cd "$(dirname "$0")/.."
 python3 tools/card.py check examples/cards.txt examples

@@ -8,7 +8,7 @@
 /* Large requests have more slots than the search tries. A length that 21 refuses counts as small. */
 enum size { SMALL, LARGE, SIZES };
 
-/* How many answers were compared, by size and code, and how many plans that were searched came with a cut part. */
+/* How many answers were compared, by size and code, and in how many searched requests an under or over part was cut. */
 static unsigned long filter_tally[SIZES][ICECOPPICE_CROSSED + 1], judge_tally[SIZES][ICECOPPICE_CROSSED + 1];
 static unsigned long under_cut_tally, over_cut_tally;
 
@@ -70,7 +70,7 @@ static bool same_buffers(const struct request *a, const struct request *b)
            memcmp(a->marks, b->marks, sizeof a->marks) == 0;
 }
 
-/* Puts the slices of one request into the buffers of another, to compare what lies beside them. */
+/* Puts the slices of one request into the buffers of another, to compare what lies beside the slices. */
 static void copy_slices(struct request *to, const struct request *from)
 {
     memcpy(to->lowest + MARGIN, from->lowest + MARGIN, from->lowest_length * sizeof *to->lowest);
@@ -140,7 +140,7 @@ static void hold_to_search(const struct request *given, const struct request *le
     }
 }
 
-/* Whether each slot lost its under part, its over part or nothing. A slot without both could not be in a plan. */
+/* Whether each slot lost its under part, its over part or nothing. A slot that lost both could not be in a plan. */
 static bool parts_cut(const struct request *given, const struct request *left)
 {
     int32_t k = given->settings.k;
@@ -154,7 +154,7 @@ static bool parts_cut(const struct request *given, const struct request *left)
     return true;
 }
 
-/* What an answer other than a refusal has to be, whatever plans there are. */
+/* Whether an answer is a yes or a no with all that must hold of it, whatever plans there are. */
 static bool is_yes_or_no(const struct request *given, const struct request *left, const struct icecoppice_answer *a)
 {
     const struct settings *s = &given->settings;

@@ -21,9 +21,9 @@ struct request blank_request(void);
 bool same_answer(const struct icecoppice_answer *a, const struct icecoppice_answer *b);
 
 /*
- * Ask both, and hold every field of the answer and every entry of the buffers to the search. Where it would have to try
- * too many plans, the filter has to answer yes or no, to keep both maximums, to cut no more than a part of a range, and
- * to draw a plan of what it leaves; without a yes it has to leave every buffer as it is.
+ * Ask both, and hold every field of the answer and every entry of the buffers to the search. Where the search would
+ * have to try too many plans, the filter has to answer yes or no, to keep both maximums, to cut no more than a part of
+ * a range, and to draw a plan of what it leaves; without a yes it has to leave every buffer as it is.
  */
 struct icecoppice_answer compare_filter(struct request *r);
 struct icecoppice_verdict compare_judge(const struct request *r);

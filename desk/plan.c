@@ -31,7 +31,7 @@ static _Noreturn void usage(void)
     exit(2);
 }
 
-/* The number at the start of the text, which is moved behind it. */
+/* The number at the start of the text, which is moved past it. */
 static long number(const char **text, long least, long most)
 {
     char *end;
@@ -64,9 +64,9 @@ static struct range range(const char *text, long least, long most)
     return r;
 }
 
-static void *room(size_t n, size_t size)
+static void *allocate(size_t n, size_t size)
 {
-    void *p = calloc(n + 1, size); /* one more, since calloc may give NULL for nothing */
+    void *p = calloc(n + 1, size); /* one more, since calloc may give NULL for 0 entries */
     if (p == NULL) {
         perror("plan");
         exit(2);
@@ -83,11 +83,11 @@ static struct burst read_arguments(int count, char **arguments)
     b.h = whole_number(arguments[3], 0, UINT16_MAX);
     b.windows = range(arguments[4], 0, UINT16_MAX);
     b.covered = range(arguments[5], 0, UINT16_MAX);
-    b.given_lowest = room(b.n, sizeof *b.given_lowest);
-    b.given_highest = room(b.n, sizeof *b.given_highest);
-    b.lowest = room(b.n, sizeof *b.lowest);
-    b.highest = room(b.n, sizeof *b.highest);
-    b.marks = room(b.n, sizeof *b.marks);
+    b.given_lowest = allocate(b.n, sizeof *b.given_lowest);
+    b.given_highest = allocate(b.n, sizeof *b.given_highest);
+    b.lowest = allocate(b.n, sizeof *b.lowest);
+    b.highest = allocate(b.n, sizeof *b.highest);
+    b.marks = allocate(b.n, sizeof *b.marks);
     for (size_t j = 0; j < b.n; j++) {
         struct range r = range(arguments[FIRST_SLOT + j], INT32_MIN, INT32_MAX);
         b.lowest[j] = b.given_lowest[j] = r.lowest;

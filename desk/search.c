@@ -7,7 +7,7 @@ struct counts {
     unsigned windows, covered;
 };
 
-/* Marks that some loads could go with, whatever the ranges. */
+/* Marks that are legal for some loads, whatever the ranges, and their counts. */
 struct drawing {
     uint8_t marks[SEARCH_SLOTS];
     struct counts counts;
@@ -40,7 +40,7 @@ static bool window_fits(const uint8_t *marks, size_t n, unsigned len, unsigned h
     return slots <= len && bridges <= h;
 }
 
-/* All of the rule that does not speak of loads. */
+/* Whether the marks keep all of the rule that does not speak of loads. */
 static bool well_drawn(const uint8_t *marks, size_t n, unsigned len, unsigned h)
 {
     for (size_t j = 0; j < n; j++) {
@@ -88,7 +88,7 @@ bool search_is_plan(const struct settings *s, const int32_t *lowest, const int32
            within_maximums(s, counts_of(marks, n));
 }
 
-/* The first of the refusals 21 to 26 that applies, or 0. The judge has one other slice and gives its length twice. */
+/* The first of the refusals 21 to 26 that applies, or 0. The judge has one other slice; its length is given twice. */
 static uint16_t refusal(const struct settings *s, size_t n, size_t second_length, size_t third_length)
 {
     if (n == 0 || n > ICECOPPICE_SLOTS)
@@ -148,7 +148,7 @@ static struct drawings draw_all(size_t n, unsigned len, unsigned h)
     return all;
 }
 
-/* Kept from call to call: they depend on nothing but n, len and h. */
+/* The drawings are kept from call to call: they depend on nothing but n, len and h. */
 static const struct drawings *drawings_of(size_t n, unsigned len, unsigned h)
 {
     static struct drawings kept[SEARCH_SLOTS + 1][SEARCH_SLOTS + 1][SEARCH_SLOTS];
@@ -200,7 +200,7 @@ static void narrow(const struct findings *f, int32_t k, int32_t *lowest, int32_t
         if (!f->over[j] && highest[j] > k)
             highest[j] = k;
         if (!f->under[j] && lowest[j] <= k)
-            lowest[j] = k + 1; /* the slot is over in some plan, so k is not the last number */
+            lowest[j] = k + 1; /* the slot is over in some plan, so k is not the highest number */
     }
 }
 

@@ -1,7 +1,7 @@
 /*
  * A second opinion on the library, by exhaustion: every string of marks is tried, and each sentence of document 01's
  * rule is tested by itself. It shares no code with the library. Only small requests can be tried so; refusals, and
- * whether given marks are a plan, are told at any size.
+ * whether given marks are a plan, are worked out at any size.
  */
 #ifndef SEARCH_H
 #define SEARCH_H

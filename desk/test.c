@@ -62,7 +62,7 @@ static uint16_t some_setting(size_t n)
     return points[below(sizeof points / sizeof *points)];
 }
 
-/* One change that often calls for a refusal. Several on one request try the order of the refusals. */
+/* Makes one change that often calls for a refusal. Several changes to one request test the order of the refusals. */
 static void damage(struct request *r)
 {
     size_t n = r->lowest_length, slot = MARGIN + below(n > 0 ? n : 1);
@@ -226,7 +226,7 @@ static uint16_t code_with_range(struct request r, size_t slot, int32_t lowest, i
     return compare_filter(&r).code;
 }
 
-/* Each part of an open slot is left exactly when the request with the slot settled so has a plan. */
+/* Each part of an open slot is left exactly when the request with the slot settled to that part has a plan. */
 static void check_parts(const struct request *given, const struct request *left, size_t slot)
 {
     int32_t k = given->settings.k, lowest = given->lowest[MARGIN + slot], highest = given->highest[MARGIN + slot];
@@ -245,7 +245,7 @@ static uint16_t code_with_maximums(struct request r, uint16_t windows_most, uint
     return compare_filter(&r).code;
 }
 
-/* With a maximum at the least count there is a plan, and one below there is none. */
+/* With a maximum at the least count there is a plan; with a maximum one below it there is none. */
 static void check_least_counts(const struct request *given, const struct icecoppice_answer *a)
 {
     uint16_t windows = a->windows_least, covered = a->covered_least;
@@ -322,7 +322,7 @@ static bool holds_only(uint8_t byte, const void *slice, size_t size)
     return true;
 }
 
-/* Lengths that would pass if they were taken as 16 bits. */
+/* Lengths that would be accepted if only their lowest 16 bits were read. */
 static void check_long_slices(void)
 {
     enum { LONG = 65536 + 1, FILL = 5 };

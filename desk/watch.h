@@ -17,7 +17,7 @@ struct icecoppice_stepped ask_step(const struct icecoppice_watch *given, int32_t
 /* Starts a model, and asks the library for the same start. */
 struct watch_model start_model(int32_t k, uint16_t len, uint16_t h);
 
-/* Takes one load more in the model, and holds a step from the model's state before to it. Gives the state after it. */
+/* Takes one load more in the model, and in the library, which has to give the same. Gives the state after the load. */
 struct icecoppice_watch compare_step(struct watch_model *m, int32_t load);
 
 /* Asks for a step, whose code has to be this one. */

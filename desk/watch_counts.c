@@ -19,7 +19,7 @@ static void take(struct watch_model *m, int32_t load)
 
 static void check_some_list(size_t n)
 {
-    uint32_t share = below(9); /* of 8 loads, about as many are over */
+    uint32_t share = below(9); /* about this many of every 8 loads are over */
     uint16_t len = 1 + below(one_in(2) ? ICECOPPICE_SLOTS : 6);
     struct watch_model m = start_model(some_load(0), len, len < 3 || one_in(4) ? 0 : below(len - 1));
     for (size_t j = 0; j < n; j++)

@@ -16,15 +16,15 @@ static unsigned under_slots(const struct watch_model *m, size_t from, size_t end
     return slots;
 }
 
-/* Whether the slots from `first` up to `end` may be a window. */
+/* Whether the slots from `first` to below `end` may be a window. */
 static bool is_window(const struct watch_model *m, size_t first, size_t end)
 {
     return over(m, first) && over(m, end - 1) && end - first <= m->len && under_slots(m, first, end) <= m->h;
 }
 
 /*
- * The least count of the first n slots, given those of fewer. The last slot is under, and then uncovered, or it ends a
- * window; each slot where that may begin is tried.
+ * The least number of windows of the first n slots, given those of fewer slots. If the last slot is under, it is
+ * uncovered. If it is over, it ends a window, and each slot where that window may begin is tried.
  */
 static uint32_t least_windows(const struct watch_model *m, size_t n)
 {
@@ -38,7 +38,7 @@ static uint32_t least_windows(const struct watch_model *m, size_t n)
     return best;
 }
 
-/* The slot where the last window was opened, if there is one. */
+/* The slot where the last window was opened. There has to be one. */
 static size_t last_opening(const struct watch_model *m)
 {
     size_t slot = m->n - 1;

@@ -1,7 +1,7 @@
 /*
  * What a watch has to hold after a list of loads. It is worked out from the list and not from the state before: the
  * count is the least number of windows that covers the loads, the last window was opened where that count last grew,
- * and it lives as long as one slot more would keep len, and the bridges so far keep h.
+ * and it is active as long as one slot more would keep len, and its bridges so far keep h.
  */
 #ifndef WATCH_MODEL_H
 #define WATCH_MODEL_H

@@ -1,7 +1,7 @@
 /*
- * Which states a step refuses. All states that up to 12 loads lead to are those of the model after every such list; of
- * all states in a box around them exactly the others are refused with 32. The limit of 1,000,000 slots is met by taking
- * as many.
+ * Checks which states a step refuses. The states that up to 12 loads lead to are those of the model after every such
+ * list. Of all states in a box around them exactly the others are refused with 32. The limit of 1,000,000 slots is
+ * checked by taking that many.
  */
 #include "random.h"
 #include "watch.h"
@@ -9,7 +9,7 @@
 /* The box: taken up to 12, windows up to 13, room up to 7, spare up to 6, for windows of at most 6 slots. */
 enum { LONGEST = 6, TAKEN = 13, WINDOWS = 14, ROOMS = 8, SPARES = 7, STATES = TAKEN * WINDOWS * ROOMS * SPARES };
 
-/* The first two of the loads are one on each side of the threshold, and all that lists need. */
+/* The first two loads are one on each side of the threshold; lists are made of these two. */
 enum { SIDES = 2, LOADS = 4 };
 
 struct box {
@@ -18,7 +18,7 @@ struct box {
     bool reached[STATES];
 };
 
-/* A state's place. */
+/* The place of a state in the box. */
 static unsigned place_of(const struct icecoppice_watch *w)
 {
     if (w->taken >= TAKEN || w->windows >= WINDOWS || w->room >= ROOMS || w->spare >= SPARES)
@@ -36,7 +36,7 @@ static struct icecoppice_watch state_at(const struct box *b, unsigned place)
     return w;
 }
 
-/* Marks the states after this list and all that begin with it, and holds the steps to the model. */
+/* Marks the states after this list and after all that begin with it, and holds the steps to the model. */
 static void explore(struct box *b, struct watch_model *m)
 {
     struct icecoppice_watch w = model_state(m);
@@ -80,7 +80,7 @@ static void check_unreached(struct icecoppice_watch w)
     check_step_code(&w, some_load(w.k), ICECOPPICE_UNREACHED, "a field that no step leads to");
 }
 
-/* One field of a reached state with a window is set to what no steps lead to, often so far off that sums would wrap. */
+/* One field of a reached state with a window is set to what no steps lead to, often so large that sums would wrap. */
 static void check_far_fields(const struct icecoppice_watch *w)
 {
     const uint32_t far_counts[] = {ICECOPPICE_WATCH_SLOTS + 1, 1u << 26, 1u << 30, 1u << 31, UINT32_MAX};
@@ -104,7 +104,10 @@ static void check_far_fields(const struct icecoppice_watch *w)
     check_unreached(last);
 }
 
-/* Every so many slots one is over, from slot 0 on; 1,000,000 slots need so many windows, and leave this to the last. */
+/*
+ * From slot 0 on, one slot in `every` is over. 1,000,000 such slots need `windows` windows, and leave `room` slots and
+ * `spare` bridges to the last one.
+ */
 struct pattern {
     uint16_t len, h;
     uint32_t every, windows;

@@ -3,9 +3,9 @@
  * watch, which counts windows slot by slot.
  *
  * Link with target/staticlib/libc_api.a (`rt staticlib c_api`, x86-64 Linux). The functions are proved for all values
- * of their arguments. Nothing checks these declarations against their source, crates/c_api/src, but the test in desk/.
+ * of their arguments. Only the test in desk/ checks these declarations against their source, crates/c_api/src.
  *
- * What a caller owes: each pointer is aligned and has as many entries behind it as its length says (a length of 0 asks
+ * What a caller owes: each pointer is aligned and points to as many entries as its length says (a length of 0 asks
  * nothing of the pointer), and no slice lent to the filter overlaps another. The watch takes numbers only, and a caller
  * owes it nothing.
  */
@@ -66,7 +66,7 @@ struct icecoppice_verdict {
 };
 
 /*
- * The state of a watch: its settings, its counts, and what is left to the living window, the one that the next slot may
+ * The state of a watch: its settings, its counts, and what is left to the active window, the one that the next slot may
  * still lie in. The caller keeps it; after each step the state that comes back replaces the one that went in.
  */
 struct icecoppice_watch {
@@ -75,8 +75,8 @@ struct icecoppice_watch {
     uint16_t h;       /* the most bridges of a window */
     uint32_t taken;   /* how many slots were taken */
     uint32_t windows; /* the least number of windows that covers their loads */
-    uint16_t room;    /* how many slots are left to the living window; 0 if none is alive */
-    uint16_t spare;   /* how many bridges are left to it; 0 if none is alive */
+    uint16_t room;    /* how many slots are left to the active window; 0 if none is active */
+    uint16_t spare;   /* how many bridges are left to it; 0 if none is active */
 };
 
 /* What a start gives. */
@@ -102,7 +102,7 @@ struct icecoppice_stepped {
  */
 
 /*
- * Plans a burst. lowest and highest hold each slot's load range, marks is room for the plan; all three have one length.
+ * Plans a burst. lowest and highest hold each slot's load range, marks receives the plan; all three have one length.
  *
  * On "planned" the ranges are narrowed to the loads that occur in some plan, and marks holds a plan within both
  * maximums. On "no plan" and on a refusal all three slices hold what they held before.

@@ -129,7 +129,7 @@ def make(source, folder):
 
 
 def check(source, folder):
-    """Each card is there, is what its section says, and is made again from what is shown of it; no other card is there."""
+    """Each card is there, is what its section says, and is made again from what `show` prints; no other is there."""
     cards = sections(source)
     wrong = {file.stem for file in Path(folder).glob("*.card")} ^ cards.keys()
     for name, data in cards.items():

@@ -1,2 +1,2 @@
-pub mod Meaning
-pub mod WatchMeaning
+pub mod Means
+pub mod WatchMeans

@@ -1,10 +1,10 @@
-// The filter and the judge for C, on numbers and slices, and the watch: under names with a prefix. include/icecoppice.h declares
-// them.
+// The filter, the judge and the watch for C, on numbers and slices, under names that begin with `icecoppice_`.
+// include/icecoppice.h declares them.
 ghost use mathlib.Core.Path.{_≡_};
-ghost use Rattle.judge.specs.Judgment.{judgment, told as Judgment·told};
-ghost use Rattle.filter.specs.Answers.{told as Answers·told};
-ghost use Rattle.requests.specs.Request.{asked};
-ghost use Rattle.c_api.specs.Numbers.{Answered, answerOf, verdictOf, settingsOf, withoutCounts};
+ghost use Rattle.judge.specs.Judgment.{judgment, meaning as Verdict·meaning};
+ghost use Rattle.filter.specs.AnswerMeaning.{meaning as Answer·meaning};
+ghost use Rattle.requests.specs.Request.{requestOf};
+ghost use Rattle.c_api.specs.Numbers.{KeepsInNumbers, answerNumbers, verdictNumbers, settingsOf, withoutCounts};
 use filter::Answer;
 use filter::filter;
 use judge::Verdict;
@@ -20,7 +20,8 @@ pub use watches::StepNumbers;
 pub use watches::icecoppice_watch_start;
 pub use watches::icecoppice_watch_step;
 
-// What the filter answers, in numbers: 0 planned, 1 no plan, else the refusal's; what does not apply is 0.
+// What the filter answers, in numbers: the code is 0 for planned, 1 for no plan, else the refusal's number; what does
+// not apply is 0.
 #[repr(C)]
 pub struct AnswerNumbers {
     pub code: u16,
@@ -31,7 +32,8 @@ pub struct AnswerNumbers {
     pub covered_most: u16,
 }
 
-// What the judge answers, in numbers: 0 yes, 1 no, else the refusal's; the counts are 0 unless it says yes.
+// What the judge answers, in numbers: the code is 0 for yes, 1 for no, else the refusal's number; the counts are 0
+// unless it says yes.
 #[repr(C)]
 pub struct VerdictNumbers {
     pub code: u16,
@@ -52,8 +54,8 @@ pub extern "C" fn icecoppice_filter(
     highest: &mut [i32],
     marks: &mut [u8],
 ) -> AnswerNumbers
-    ensures { λ r. ⌜ Answered
-        (asked (settingsOf k len h «windows_least» «windows_most» «covered_least» «covered_most»)
+    ensures { λ r. ⌜ KeepsInNumbers
+        (requestOf (settingsOf k len h «windows_least» «windows_most» «covered_least» «covered_most»)
         (now (lowest .entry)) (now (highest .entry)) (now (marks .entry)))
         r (now (lowest .exit)) (now (highest .exit)) (now (marks .exit)) ⌝ }
 {
@@ -82,7 +84,7 @@ pub extern "C" fn icecoppice_judge(
     loads: &[i32],
     marks: &[u8],
 ) -> VerdictNumbers
-    ensures { λ r. ⌜ r ≡ verdictOf (judgment
+    ensures { λ r. ⌜ r ≡ verdictNumbers (judgment
         (settingsOf k len h «windows_least» «windows_most» «covered_least» «covered_most»)
         (now (loads .entry)) (now (marks .entry))) ⌝ }
 {
@@ -125,7 +127,7 @@ fn gather(
 }
 
 fn answer_numbers(answer: Answer) -> AnswerNumbers
-    ensures { λ r. ⌜ r ≡ answerOf (Answers·told answer) ⌝ }
+    ensures { λ r. ⌜ r ≡ answerNumbers (Answer·meaning answer) ⌝ }
 {
     match answer {
         Answer::Refused(refusal) => without_counts(refusal.number(), refusal.slot()),
@@ -155,7 +157,7 @@ fn without_counts(code: u16, slot: usize) -> AnswerNumbers
 }
 
 fn verdict_numbers(verdict: Verdict) -> VerdictNumbers
-    ensures { λ r. ⌜ r ≡ verdictOf (Judgment·told verdict) ⌝ }
+    ensures { λ r. ⌜ r ≡ verdictNumbers (Verdict·meaning verdict) ⌝ }
 {
     match verdict {
         Verdict::Yes { windows, covered } => VerdictNumbers {

@@ -1,22 +1,22 @@
-// The watch for C: its state goes in by value and comes back.
+// The watch for C: its state is passed by value and comes back.
 ghost use mathlib.Core.Path.{_≡_};
 ghost use Rattle.rule.specs.Rule.{shaped};
-ghost use Rattle.watch.specs.Promise.{starting};
-ghost use Rattle.c_api.specs.WatchNumbers.{noWatch, startOf, Stepping};
+ghost use Rattle.watch.specs.Start.{starting};
+ghost use Rattle.c_api.specs.WatchNumbers.{noWatch, startNumbers, StepsInNumbers};
 use rule::Shape;
 use watch::Answer;
 use watch::Started;
 use watch::Watch;
 
-// What a watch's start gives, in numbers: 0 and a state, or the refusal's and a state of zeros.
+// What a watch's start gives, in numbers: the code 0 and a state, or the refusal's number and a state of zeros.
 #[repr(C)]
 pub struct StartNumbers {
     pub code: u16,
     pub watch: Watch,
 }
 
-// What a step gives, in numbers: 0 and whether the load opened a window, or the refusal's; and the state that replaces the one
-// given.
+// What a step gives, in numbers: the code 0 and whether the load opened a window, or the refusal's number; and the
+// state that replaces the one given.
 #[repr(C)]
 pub struct StepNumbers {
     pub code: u16,
@@ -24,10 +24,10 @@ pub struct StepNumbers {
     pub watch: Watch,
 }
 
-// Starts a watch: its state, or code 23 or 24 and a state of zeros.
+// Starts a watch: gives its state, or code 23 or 24 and a state of zeros.
 #[no_mangle]
 pub extern "C" fn icecoppice_watch_start(k: i32, len: u16, h: u16) -> StartNumbers
-    ensures { λ r. ⌜ r ≡ startOf (starting k (shaped len h)) ⌝ }
+    ensures { λ r. ⌜ r ≡ startNumbers (starting k (shaped len h)) ⌝ }
 {
     let started = Watch::start(k, Shape { len, h });
     match started {
@@ -39,10 +39,10 @@ pub extern "C" fn icecoppice_watch_start(k: i32, len: u16, h: u16) -> StartNumbe
     }
 }
 
-// One load more. A refused step hands the state back as it is.
+// Takes one load more. A refused step hands the state back as it is.
 #[no_mangle]
 pub extern "C" fn icecoppice_watch_step(watch: Watch, load: i32) -> StepNumbers
-    ensures { λ r. ⌜ Stepping watch load r ⌝ }
+    ensures { λ r. ⌜ StepsInNumbers watch load r ⌝ }
 {
     let stepped = watch.step(load);
     let watch = stepped.watch;

@@ -1,3 +1,3 @@
-pub mod Agreeing
-pub mod Answering
-mod Filling
+pub mod LookUpAgrees
+pub mod ReaderAnswers
+mod FillLoop

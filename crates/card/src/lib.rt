@@ -1,6 +1,7 @@
-// Form 1 files: the reader, and the look-up by slot number. What comes back is specs/Reading.antt.
+// Form 1 files: the reader, and the look-up by slot number. specs/Reading.antt and specs/LookUp.antt say what comes
+// back.
 ghost use mathlib.Core.Path.{_≡_};
-ghost use Rattle.card.specs.Reading.{handed, reading};
+ghost use Rattle.card.specs.Reading.{outcomeOf, reading};
 use crate::records::fill;
 use form1::Opened;
 use form1::open;
@@ -25,10 +26,10 @@ pub enum Found {
     Record(Range),
 }
 
-// Gives the first refusal that applies, or the settings and n, as the file has them. Only in the latter case it writes: the
-// first n places of both slices.
+// Gives the first refusal that applies, or the settings and n, as the file has them. Only in the latter case does it
+// write: into the first n places of both slices.
 pub fn read(file: &[u8], lowest: &mut [i32], highest: &mut [i32]) -> Reading
-    ensures { λ r. ⌜ handed r (now (lowest .exit)) (now (highest .exit))
+    ensures { λ r. ⌜ outcomeOf r (now (lowest .exit)) (now (highest .exit))
         ≡ reading (now (file .entry)) (now (lowest .entry)) (now (highest .entry)) ⌝ }
 {
     match open(file) {

@@ -1,6 +1,6 @@
 // One record, by its slot number.
 ghost use mathlib.Core.Path.{_≡_};
-ghost use Rattle.card.specs.Reading.{shown, looking};
+ghost use Rattle.card.specs.LookUp.{meaning, looking};
 use crate::Found;
 use form1::Opened;
 use form1::RECORD;
@@ -10,7 +10,7 @@ use refusals::Refusal;
 
 // Gives the first refusal that applies, or the load range of the slot.
 pub fn look_up(file: &[u8], slot: usize) -> Found
-    ensures { λ r. ⌜ shown r ≡ looking slot (now (file .entry)) ⌝ }
+    ensures { λ r. ⌜ meaning r ≡ looking slot (now (file .entry)) ⌝ }
 {
     match open(file) {
         Opened::Refused(refusal) => Found::Refused(refusal),

@@ -3,12 +3,12 @@ use crate::filtered::request;
 use crate::numbers::MANY;
 use crate::numbers::bytes;
 use crate::numbers::second;
-use crate::show::count;
-use crate::show::line_feed;
-use crate::show::number;
-use crate::show::refused;
-use crate::show::signed;
 use crate::show::write;
+use crate::show::write_count;
+use crate::show::write_line_feed;
+use crate::show::write_number;
+use crate::show::write_refusal;
+use crate::show::write_signed;
 use crate::text::HEXADECIMAL;
 use card::Found;
 use card::Reading;
@@ -17,7 +17,7 @@ use settings::CountRange;
 use settings::PLACES;
 use settings::Settings;
 
-// `read`: nothing; the bytes of a file.
+// The fields of `read`: no numbers; the bytes of a file, in hexadecimal.
 pub fn read(line: &[u8]) {
     let mut all = [0u8; MANY];
     let n = bytes(line, second(line), HEXADECIMAL, &mut all);
@@ -25,7 +25,7 @@ pub fn read(line: &[u8]) {
     file(&all[..n]);
 }
 
-// The slots through a view, up to the first refusal.
+// Writes what a view gives for each slot, up to the first refusal.
 fn records(file: &[u8]) {
     let mut slot = 0;
     while slot < PLACES {
@@ -37,54 +37,54 @@ fn records(file: &[u8]) {
 }
 
 fn viewed(file: &[u8], slot: usize) -> bool {
-    number(b"slot ", slot as u64);
+    write_number(b"slot ", slot as u64);
     let found = view::viewed(file, slot);
     match found {
         Found::Refused(refusal) => {
             write(b" ");
-            refused(refusal);
-            line_feed();
+            write_refusal(refusal);
+            write_line_feed();
             false
         }
         Found::Record(range) => {
-            signed(b" ", range.lowest);
-            signed(b"..", range.highest);
-            line_feed();
+            write_signed(b" ", range.lowest);
+            write_signed(b"..", range.highest);
+            write_line_feed();
             true
         }
     }
 }
 
-// What the reader gives, and the filter for it.
+// Writes what the reader gives, and what the filter answers to it.
 fn file(file: &[u8]) {
     let mut lowest = [0i32; PLACES];
     let mut highest = [0i32; PLACES];
     match card::read(file, &mut lowest, &mut highest) {
         Reading::Refused(refusal) => {
-            refused(refusal);
-            line_feed();
+            write_refusal(refusal);
+            write_line_feed();
         }
         Reading::Taken { settings, n } => {
-            asked(settings);
+            write_settings(settings);
             request(settings, n, n, &mut lowest, &mut highest);
         }
     }
 }
 
-fn asked(settings: Settings) {
-    signed(b"k ", settings.k);
-    shape(settings.shape);
-    counts(b" windows ", settings.windows);
-    counts(b" covered ", settings.covered);
-    line_feed();
+fn write_settings(settings: Settings) {
+    write_signed(b"k ", settings.k);
+    write_shape(settings.shape);
+    write_range(b" windows ", settings.windows);
+    write_range(b" covered ", settings.covered);
+    write_line_feed();
 }
 
-fn shape(shape: Shape) {
-    count(b" len ", shape.len);
-    count(b" h ", shape.h);
+fn write_shape(shape: Shape) {
+    write_count(b" len ", shape.len);
+    write_count(b" h ", shape.h);
 }
 
-fn counts(word: &[u8], range: CountRange) {
-    count(word, range.least);
-    count(b"..", range.most);
+fn write_range(word: &[u8], range: CountRange) {
+    write_count(word, range.least);
+    write_count(b"..", range.most);
 }

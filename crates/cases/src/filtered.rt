@@ -1,8 +1,8 @@
-// What the filter gives.
+// What the filter answers.
 ghost use Prim.Native.Nat.{_≤_};
 ghost use lib.ListN.{length};
 ghost use Rattle.settings.specs.Refusals.{places};
-use crate::judged::said;
+use crate::judged::write_verdict;
 use crate::numbers::numbers;
 use crate::numbers::second;
 use crate::numbers::settings;
@@ -15,7 +15,7 @@ use judge::judge;
 use settings::PLACES;
 use settings::Settings;
 
-// `filter`: the settings; the lowest loads; the highest loads.
+// The fields of `filter`: the settings; the lowest loads; the highest loads.
 pub fn filtered(line: &[u8]) {
     let mut lowest = [0i32; PLACES];
     let n = numbers(line, second(line), DECIMAL, &mut lowest);
@@ -24,7 +24,7 @@ pub fn filtered(line: &[u8]) {
     request(settings(line), n, m, &mut lowest, &mut highest);
 }
 
-// A request of the first n lowest and the first m highest loads.
+// Asks the filter about the first n lowest and the first m highest loads.
 pub fn request(settings: Settings, n: usize, m: usize, lowest: &mut [i32], highest: &mut [i32])
     requires { ⌜ (n ≤ length (now lowest)) × (m ≤ length (now highest)) × (n ≤ places) ⌝ }
 {
@@ -37,7 +37,7 @@ pub fn request(settings: Settings, n: usize, m: usize, lowest: &mut [i32], highe
     );
 }
 
-// The answer, as the plan printer writes it; and of a plan, what the judge says.
+// Writes the answer as the plan printer does, and for a plan what the judge says of it.
 fn planned(settings: Settings, lowest: &mut [i32], highest: &mut [i32], marks: &mut [u8]) {
     let answer = filter(settings, lowest, highest, marks);
     listed(answer, lowest, highest, marks);
@@ -46,7 +46,7 @@ fn planned(settings: Settings, lowest: &mut [i32], highest: &mut [i32], marks: &
 
 fn listed(answer: Answer, lowest: &[i32], highest: &[i32], marks: &[u8]) {
     let mut text = io::buffer();
-    let length = listing::answered(answer, lowest, highest, marks, &mut text);
+    let length = listing::write_answer(answer, lowest, highest, marks, &mut text);
     write(&text[..length]);
 }
 
@@ -54,11 +54,11 @@ fn allowed(answer: Answer, settings: Settings, lowest: &mut [i32], highest: &[i3
     if let Answer::Planned(_) = answer {
         settle(lowest, highest, marks);
         write(b"judge ");
-        said(judge(settings, lowest, marks));
+        write_verdict(judge(settings, lowest, marks));
     }
 }
 
-// Makes the lowest loads fit the marks: where a mark is 1 or 2, it becomes the highest.
+// Makes the lowest loads fit the marks: where a mark is 1 or 2, the slot's highest load replaces its lowest.
 fn settle(lowest: &mut [i32], highest: &[i32], marks: &[u8]) {
     let mut i = 0;
     while i < marks.len() {

@@ -1,12 +1,12 @@
-// Works the cases of its standard input, a line each: document 01's worked plans, and more. A line begins with the name of an
-// operation and has its numbers, in fields divided by `;`; words are passed over. Every line is written as it is, and below it what
-// the operation gave.
+// Works the cases of its standard input, one on each line: document 01's worked plans, and more. A line begins with the
+// name of an operation, whose numbers stand in fields divided by `;`. Words are skipped. Every line is written as it
+// is, and below it what the operation gave.
 use crate::cards::read;
 use crate::filtered::filtered;
 use crate::judged::chosen;
 use crate::judged::judged;
 use crate::show::write;
-use crate::text::behind;
+use crate::text::after_byte;
 use crate::watched::stepped;
 use crate::watched::watched;
 use libc::STDIN_FILENO;
@@ -28,7 +28,7 @@ fn main() {
 fn each_line(text: &[u8]) {
     let mut start = 0;
     while start < text.len() {
-        let end = behind(text, start, b'\n');
+        let end = after_byte(text, start, b'\n');
         line(&text[start..end]);
         start = end;
     }
@@ -41,7 +41,7 @@ fn line(line: &[u8]) {
     }
 }
 
-// By the first letter of its name. A line with any other, as a comment, is only written.
+// An operation is known by its first letter. A line that begins otherwise, such as a comment, is only written.
 fn operation(letter: u8, line: &[u8]) {
     match letter {
         b'f' => filtered(line),

@@ -1,40 +1,41 @@
-// The fields of a line as what the operations take.
+// Turns the fields of a line into what the operations take.
 ghost use mathlib.Core.Path.{_≡_};
 ghost use Prim.Native.Nat.{_≤_, _<_};
 ghost use lib.ListN.{length, take};
 use crate::text::DECIMAL;
 use crate::text::Number;
-use crate::text::behind;
+use crate::text::after_byte;
 use crate::text::number_at;
 use rule::Shape;
 use settings::CountRange;
 use settings::Settings;
 
-// The most numbers of a first field, and of any other; of loads and of marks it is PLACES, one more than a plan may have.
+// The most numbers that are read from a first field, and from any other. Of loads and marks at most PLACES are read,
+// one more than a plan may have slots.
 const FIRST: usize = 7;
 
 pub const MANY: usize = 130;
 
 // Where the second field of a line begins, and the third.
 pub fn second(line: &[u8]) -> usize {
-    behind(line, 0, b';')
+    after_byte(line, 0, b';')
 }
 
 pub fn third(line: &[u8]) -> usize {
-    behind(line, second(line), b';')
+    after_byte(line, second(line), b';')
 }
 
-// Puts the numbers of the field that begins at a place into the first places of a slice, and gives how many they are.
+// Puts the numbers of the field that begins at `from` into the first places of a slice, and gives how many these are.
 pub fn numbers(line: &[u8], from: usize, base: u32, out: &mut [i32]) -> usize
     ensures { λ r. ⌜ (r ≤ length (now (out .exit))) × (r ≡ length (take r (now (out .exit)))) ⌝ }
 {
-    let end = behind(line, from, b';');
+    let end = after_byte(line, from, b';');
     let mut count = 0;
     let mut i = from;
     while i < end {
         let number = number_at(line, i, base);
         count = put(number, out, count);
-        i = number.behind;
+        i = number.next;
     }
     count
 }
@@ -54,7 +55,7 @@ fn put(number: Number, out: &mut [i32], count: usize) -> usize
     count + 1
 }
 
-// The same for bytes; 255 stands for a larger number.
+// The same for bytes, where 255 stands for any larger number.
 pub fn bytes(line: &[u8], from: usize, base: u32, out: &mut [u8]) -> usize
     ensures { λ r. ⌜ (r ≤ length (now (out .exit))) × (r ≡ length (take r (now (out .exit)))) ⌝ }
 {
@@ -77,7 +78,8 @@ fn each_byte(all: &[i32], out: &mut [u8]) -> usize
     i
 }
 
-// A number of the first field by its place, or 0 where there is none. The two functions behind this one give it as a count.
+// Number i of the first field, counted from 0, or 0 where there is none. The next two functions give its magnitude, as
+// an unsigned number of 32 and of 16 bits.
 pub fn first(line: &[u8], i: usize) -> i32
     requires { ⌜ i < 7 ⌝ }
 {
@@ -92,7 +94,7 @@ pub fn long(line: &[u8], i: usize) -> u32
     magnitude(first(line, i))
 }
 
-// 65,535 stands for a larger number.
+// 65,535 stands for any larger number.
 pub fn short(line: &[u8], i: usize) -> u16
     requires { ⌜ i < 7 ⌝ }
 {

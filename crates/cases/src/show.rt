@@ -8,16 +8,16 @@ pub fn write(text: &[u8]) {
 }
 
 // A number with a word before it.
-pub fn number(word: &[u8], n: u64) {
+pub fn write_number(word: &[u8], n: u64) {
     write(word);
     io::print_decimal(STDOUT_FILENO, n);
 }
 
-pub fn count(word: &[u8], n: u16) {
-    number(word, n as u64);
+pub fn write_count(word: &[u8], n: u16) {
+    write_number(word, n as u64);
 }
 
-pub fn signed(word: &[u8], x: i32) {
+pub fn write_signed(word: &[u8], x: i32) {
     write(word);
     if x < 0 {
         write(b"-");
@@ -25,10 +25,10 @@ pub fn signed(word: &[u8], x: i32) {
     io::print_decimal(STDOUT_FILENO, magnitude(x) as u64);
 }
 
-pub fn refused(refusal: Refusal) {
-    count(b"refused ", refusal.number());
+pub fn write_refusal(refusal: Refusal) {
+    write_count(b"refused ", refusal.number());
 }
 
-pub fn line_feed() {
+pub fn write_line_feed() {
     write(b"\n");
 }

@@ -2,17 +2,17 @@
 ghost use Prim.Native.Nat.{_+_, _≤_, _<_, min};
 ghost use lib.ListN.{length};
 
-// Digits from a place on, and the place behind them.
+// The number that the digits from a place on make, and the place after them.
 struct Digits {
     size: u32,
-    behind: usize,
+    next: usize,
 }
 
-// Whether a number begins at a place, the number, and the place behind it, which is the next where none begins.
+// Whether a number begins at a place, the number, and the place after it. Where none begins, that is the next place.
 pub struct Number {
     pub found: bool,
     pub value: i32,
-    pub behind: usize,
+    pub next: usize,
 }
 
 // The bases that numbers are written in.
@@ -23,8 +23,8 @@ pub const HEXADECIMAL: u32 = 16;
 // The largest load.
 const MOST: u32 = 2147483647;
 
-// The place behind the next such byte, or behind the text.
-pub fn behind(text: &[u8], from: usize, byte: u8) -> usize
+// The place after the first such byte from `from` on, or the end of the text where there is none.
+pub fn after_byte(text: &[u8], from: usize, byte: u8) -> usize
     ensures { λ r. ⌜ (min (from + 1) (length (now (text .entry))) ≤ r) × (r ≤ length (now (text .entry))) ⌝ }
 {
     let mut i = from;
@@ -39,41 +39,41 @@ pub fn behind(text: &[u8], from: usize, byte: u8) -> usize
 
 pub fn number_at(text: &[u8], i: usize, base: u32) -> Number
     requires { ⌜ i < length (now text) ⌝ }
-    ensures { λ r. ⌜ (i < r .behind) × (r .behind ≤ length (now (text .entry))) ⌝ }
+    ensures { λ r. ⌜ (i < r .next) × (r .next ≤ length (now (text .entry))) ⌝ }
 {
     let digits = digits_at(text, i, base);
-    if digits.behind > i {
+    if digits.next > i {
         return Number {
             found: true,
             value: signed(minus_before(text, i), digits.size),
-            behind: digits.behind,
+            next: digits.next,
         };
     }
     Number {
         found: false,
         value: 0,
-        behind: i + 1,
+        next: i + 1,
     }
 }
 
 fn digits_at(text: &[u8], from: usize, base: u32) -> Digits
     requires { ⌜ from < length (now text) ⌝ }
-    ensures { λ r. ⌜ (from ≤ r .behind) × (r .behind ≤ length (now (text .entry))) ⌝ }
+    ensures { λ r. ⌜ (from ≤ r .next) × (r .next ≤ length (now (text .entry))) ⌝ }
 {
     let mut size: u32 = 0;
     let mut i = from;
     while i < text.len() {
         let digit = digit(text[i]);
         if digit >= base {
-            return Digits { size, behind: i };
+            return Digits { size, next: i };
         }
         size = with_digit(size, base, digit);
         i += 1;
     }
-    Digits { size, behind: i }
+    Digits { size, next: i }
 }
 
-// 16 where the byte is no digit.
+// The value of a digit, or 16 where the byte is none.
 fn digit(byte: u8) -> u32 {
     match byte {
         b'0'..=b'9' => (byte - b'0') as u32,
@@ -82,7 +82,7 @@ fn digit(byte: u8) -> u32 {
     }
 }
 
-// The largest of its type where there is no room for one more digit.
+// The number with one digit more, or the largest of its type where that does not fit.
 fn with_digit(size: u32, base: u32, digit: u32) -> u32 {
     let sum = shifted(size, base) + digit as u64;
     if sum > 4294967295 {
@@ -119,7 +119,7 @@ fn signed(negative: bool, size: u32) -> i32 {
     !load(size - 1)
 }
 
-// The largest load where the number is larger.
+// The number as a load, or the largest load where the number is larger.
 fn load(n: u32) -> i32 {
     if n > MOST {
         return MOST as i32;

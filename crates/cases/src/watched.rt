@@ -6,25 +6,26 @@ use crate::numbers::second;
 use crate::numbers::shape;
 use crate::numbers::short;
 use crate::numbers::third;
-use crate::show::count;
-use crate::show::line_feed;
-use crate::show::number;
-use crate::show::refused;
 use crate::show::write;
+use crate::show::write_count;
+use crate::show::write_line_feed;
+use crate::show::write_number;
+use crate::show::write_refusal;
 use crate::text::DECIMAL;
 use settings::PLACES;
 use watch::Answer;
 use watch::Started;
 use watch::Watch;
 
-// `watch`: k, len, h, and a number of rounds, if any; the loads; the loads of a round, which come before them.
+// The fields of `watch`: k, len, h and, if there are rounds, their number; the loads; the loads of a round. The rounds
+// are taken before the loads.
 pub fn watched(line: &[u8]) {
     let started = start(line);
     match started {
-        Started::Watching(watch) => onward(rounds(watch, line), line),
+        Started::Watching(watch) => write_steps(rounds(watch, line), line),
         Started::Refused(refusal) => {
-            refused(refusal);
-            line_feed();
+            write_refusal(refusal);
+            write_line_feed();
         }
     }
 }
@@ -33,8 +34,8 @@ fn start(line: &[u8]) -> Started {
     Watch::start(first(line, 0), shape(line))
 }
 
-// `step`, from a given state: k, len, h, the slots taken, the windows, and the slots and bridges left to the living one; the
-// loads.
+// The fields of `step`: a state, which is k, len, h, the slots taken, the windows, and the slots and bridges left to
+// the active window; the loads.
 pub fn stepped(line: &[u8]) {
     let watch = Watch {
         k: first(line, 0),
@@ -45,7 +46,7 @@ pub fn stepped(line: &[u8]) {
         room: short(line, 5),
         spare: short(line, 6),
     };
-    onward(watch, line);
+    write_steps(watch, line);
 }
 
 fn rounds(watch: Watch, line: &[u8]) -> Watch {
@@ -65,9 +66,9 @@ fn each_round(watch: Watch, loads: &[i32], n: u32) -> Watch {
     now
 }
 
-// The state, and what each load leads to.
-fn onward(watch: Watch, line: &[u8]) {
-    state(watch);
+// Writes the state, and then what each load leads to.
+fn write_steps(watch: Watch, line: &[u8]) {
+    write_state(watch);
     let mut loads = [0i32; PLACES];
     let n = numbers(line, second(line), DECIMAL, &mut loads);
     each_step(watch, &loads[..n]);
@@ -82,17 +83,17 @@ fn each_step(watch: Watch, loads: &[i32]) {
     }
 }
 
-// What the step answered, and the state that came back, which is handed back too.
+// Takes one load, writes the answer and the state that came back, and gives that state.
 fn step(watch: Watch, load: i32) -> Watch {
     let stepped = watch.step(load);
     let answer = stepped.answer;
-    answered(answer);
-    let behind = stepped.watch;
-    state(behind);
-    behind
+    write_answer(answer);
+    let after = stepped.watch;
+    write_state(after);
+    after
 }
 
-fn answered(answer: Answer) {
+fn write_answer(answer: Answer) {
     match answer {
         Answer::Taken { opened } => {
             if opened {
@@ -102,17 +103,17 @@ fn answered(answer: Answer) {
             }
         }
         Answer::Refused(refusal) => {
-            refused(refusal);
+            write_refusal(refusal);
             write(b": ");
         }
     }
 }
 
-// The slots taken, the windows, and the slots and bridges left to the living one.
-fn state(watch: Watch) {
-    number(b"slots ", watch.taken as u64);
-    number(b" windows ", watch.windows as u64);
-    count(b" left ", watch.room);
-    count(b" ", watch.spare);
-    line_feed();
+// Writes the slots taken, the windows, and the slots and bridges left to the active window.
+fn write_state(watch: Watch) {
+    write_number(b"slots ", watch.taken as u64);
+    write_number(b" windows ", watch.windows as u64);
+    write_count(b" left ", watch.room);
+    write_count(b" ", watch.spare);
+    write_line_feed();
 }

@@ -1,1 +1,1 @@
-mod Crossing
+mod FirstCrossedLoop

@@ -3,7 +3,7 @@
 ghost use mathlib.Core.Path.{_≡_};
 ghost use lib.ListN.{length};
 ghost use lib.Signed.{ltZ};
-ghost use Rattle.refusals.specs.Answer.{checked};
+ghost use Rattle.refusals.specs.Answer.{meaning};
 ghost use Rattle.requests.specs.Request.{crossed, paired, requestRefusal};
 use refusals::Checked;
 use refusals::Refusal;
@@ -11,15 +11,15 @@ use settings::Settings;
 use settings::check;
 use settings::differ;
 
-// The first refusal that applies to a request of these settings and loads; different says whether another slice that comes with
-// them has a different length than the first.
+// The first refusal that applies to a request of these settings and loads; `different` says whether
+// another slice that comes with them differs in length from the first.
 pub fn check_request(
     settings: Settings,
     lowest: &[i32],
     highest: &[i32],
     different: bool,
 ) -> Checked
-    ensures { λ r. ⌜ checked r ≡ requestRefusal settings (now (lowest .entry)) (now (highest .entry)) different ⌝ }
+    ensures { λ r. ⌜ meaning r ≡ requestRefusal settings (now (lowest .entry)) (now (highest .entry)) different ⌝ }
 {
     let n = lowest.len();
     let checked = check(settings, n, differ(n, highest.len()) | different);
@@ -32,7 +32,7 @@ pub fn check_request(
 // Refusal 31, where no refusal before it applies.
 fn first_crossed(lowest: &[i32], highest: &[i32]) -> Checked
     requires { ⌜ length (now highest) ≡ length (now lowest) ⌝ }
-    ensures { λ r. ⌜ checked r ≡ crossed 0 (paired (now (lowest .entry)) (now (highest .entry))) ⌝ }
+    ensures { λ r. ⌜ meaning r ≡ crossed 0 (paired (now (lowest .entry)) (now (highest .entry))) ⌝ }
 {
     let mut i = 0;
     while i < lowest.len() {

@@ -12,14 +12,15 @@ use Rattle.chooser.specs.declared.Choice.the-variants.{First, Second, Ne
 use Rattle.refusals.specs.Answer.{refuses, gives}
 use Rattle.refusals.specs.declared.Refusal.{Refusal}
 use Rattle.settings.specs.declared.Settings.{Settings}
-use Rattle.judge.specs.Judgment.{Said, says, Judgment, judgment}
+use Rattle.judge.specs.Judgment.{YesOrNo, says, Judgment, judgment}
 
 -- fewer windows, then fewer covered slots, then the first
 unfoldable pub fewer : (w₁ c₁ w₂ c₂ : ℕ) → Choice
 fewer w₁ c₁ w₂ c₂ = cond (ltb w₂ w₁) Second (cond (ltb w₁ w₂) First (cond (ltb c₂ c₁) Second First))
 
--- one that the judge says yes to beats one that it says no to; yes to neither, or any refusal, is neither
-abbrev better : (one two : Said) → Choice
+-- one that the judge says yes to beats one that it says no to; where it says yes to neither, or refuses
+-- one, neither is chosen
+abbrev better : (one two : YesOrNo) → Choice
 better (says true w₁ c₁) (says true w₂ c₂) = fewer w₁ c₁ w₂ c₂
 better (says true w₁ c₁) (says false w₂ c₂) = First
 better (says false w₁ c₁) (says true w₂ c₂) = Second
@@ -34,7 +35,8 @@ choice (refuses r) two = Neither
 abbrev pub EmptyPart : (a r : RefT (List ℕ)) → Type 0
 EmptyPart a r = (ptr r ≡ ptr a) × (now r ≡ [])
 
--- r is the chosen one of the lent slices a and b, as that very slice: its pointer, ghost name and contents
+-- r is the chosen one of the lent slices a and b, as that very slice, with its pointer, ghost name and contents; or it
+-- is the empty part, where neither is chosen
 abbrev pub HandsBack : Choice → (a b r : RefT (List ℕ)) → Type 0
 HandsBack First a b r = r ≡ a
 HandsBack Second a b r = r ≡ b
@@ -53,9 +55,9 @@ No s loads a = (w : ℕ) × (c : ℕ) × (judgment s loads (now a) ≡ gives (sa
 abbrev pub Refuses : Settings → List ℤ → RefT (List ℕ) → Type 0
 Refuses s loads a = (q : Refusal) × (judgment s loads (now a) ≡ refuses q)
 
--- What the chosen one can be (proofs/Choosing.antt).
+-- What the slice handed back can be (proofs/Chooses.antt).
 pub record Chooses (s : Settings) (loads : List ℤ) (a b r : RefT (List ℕ)) : Type 0 where
   -- one of the two plans, to which the judge says yes, or the empty part
-  pub handed : (((r ≡ a) ⊎ (r ≡ b)) × Yes s loads r) ⊎ EmptyPart a r
+  pub one-or-empty : (((r ≡ a) ⊎ (r ≡ b)) × Yes s loads r) ⊎ EmptyPart a r
   -- the empty part exactly where the judge refuses one of the two, or says no to both
   pub empty : EmptyPart a r ↔ (Refuses s loads a ⊎ (Refuses s loads b ⊎ (No s loads a × No s loads b)))

@@ -1,20 +1,20 @@
 // The chooser, as document 01 calls it: the better of two finished plans.
 ghost use mathlib.Core.Path.{_≡_};
 ghost use Rattle.chooser.specs.Choice.{Chosen, choice, fewer as Choice·fewer};
-ghost use Rattle.judge.specs.Judgment.{told};
+ghost use Rattle.judge.specs.Judgment.{meaning};
 use judge::Verdict;
 use judge::judge;
 use settings::Settings;
 
-// Which of two plans.
+// Which of two plans is chosen, if any.
 pub enum Choice {
     First,
     Second,
     Neither,
 }
 
-// Hands back the better of two lent plans, as that very slice. Where the judge says yes to neither, or refuses one, it hands
-// back the empty part at the start of the first.
+// Hands back the better of two lent plans, as that very slice, or the empty part at the start of the first where the
+// judge says yes to neither or refuses one.
 pub fn choose<'a>(settings: Settings, loads: &[i32], first: &'a [u8], second: &'a [u8]) -> &'a [u8]
     ensures { λ r. ⌜ Chosen settings (now (loads .entry)) (first .entry) (second .entry) r ⌝ }
 {
@@ -28,9 +28,9 @@ pub fn choose<'a>(settings: Settings, loads: &[i32], first: &'a [u8], second: &'
     }
 }
 
-// One that the judge says yes to before one that it says no to; of two, the better by fewer.
+// A plan that the judge says yes to is better than one that it says no to; of two that it says yes to, `fewer` decides.
 fn prefer(one: Verdict, two: Verdict) -> Choice
-    ensures { λ r. ⌜ r ≡ choice (told one) (told two) ⌝ }
+    ensures { λ r. ⌜ r ≡ choice (meaning one) (meaning two) ⌝ }
 {
     match one {
         Verdict::Yes {

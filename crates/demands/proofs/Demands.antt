@@ -1,4 +1,4 @@
--- What specs/Demands.antt states, each line from where it is proved.
+-- What specs/Demands.antt states, each line taken from where it is proved.
 use Prim.Native.Nat.{ℕ}
 use native.Mathlib.Omega.{arith}
 use mathlib.Core.Bool.{true, false}
@@ -8,21 +8,21 @@ use mathlib.Core.Option.{none}
 use mathlib.Core.Path.{_≡_, refl, _∙_}
 use lib.IntN.{ℤ}
 use lib.ListN.{length}
-use Rattle.card.proofs.Agreeing.{agree}
-use Rattle.card.proofs.Answering.{reader-refuses, look-up-refuses, refused-unaltered}
-use Rattle.c_api.proofs.Meaning.{means, verdict-means}
-use Rattle.c_api.proofs.WatchMeaning.{start-means, step-means}
-use Rattle.chooser.proofs.Choosing.{chooses}
-use Rattle.judge.proofs.Allowing.{Allowed, allowing, saying, said, refusing}
-use Rattle.form1.proofs.Drawing.{read-back}
-use Rattle.form1.proofs.Redrawing.{drawn-only}
+use Rattle.card.proofs.LookUpAgrees.{look-up-agrees}
+use Rattle.card.proofs.ReaderAnswers.{reader-refuses, look-up-refuses, refused-unaltered}
+use Rattle.c_api.proofs.Means.{means, verdict-means}
+use Rattle.c_api.proofs.WatchMeans.{start-means, step-means}
+use Rattle.chooser.proofs.Chooses.{chosen→chooses}
+use Rattle.judge.proofs.Allowed.{Allowed, allowed-iff, allowed→yes, yes→allowed, judgment-refuses}
+use Rattle.form1.proofs.ReadBack.{read-back}
+use Rattle.form1.proofs.OnlyEncoded.{only-encoded}
 use Rattle.listing.proofs.Cases.{cases as texts}
 use Rattle.listing.proofs.Decimals.{decimals}
-use Rattle.rule.proofs.Onward.{as-long}
-use Rattle.refusals.proofs.Numbered.{same-refusal}
+use Rattle.rule.proofs.LegalFrom.{legal-length}
+use Rattle.refusals.proofs.Injective.{number-slot-injective}
 use Rattle.refusals.specs.Answer.{gives}
 use Rattle.judge.specs.Judgment.{says, judgment}
-use Rattle.settings.proofs.Passing.{same as same-lengths}
+use Rattle.settings.proofs.Accepted.{differs-false}
 use Rattle.settings.specs.Refusals.{refusal}
 use Rattle.rule.specs.Rule.{carries, shaped}
 use Rattle.rule.specs.declared.Shape.{Shape}
@@ -30,21 +30,21 @@ use Rattle.settings.specs.declared.Settings.{Settings}
 use Rattle.published.proofs.Corners.{recount}
 use Rattle.published.proofs.Examples.{examples}
 use Rattle.published.proofs.Theorems.{theorems}
-use Rattle.published.specs.Published.{Run, size, sum, _⊆_, Obeys, Corners, runs}
+use Rattle.published.specs.Published.{Sequence, size, sum, _⊆_, Obeys, Corners, sequencesOf}
 use Rattle.requests.proofs.Alike.{alike}
 use Rattle.requests.proofs.Cases.{all-kept}
 use Rattle.requests.proofs.Demand3.{demand3}
-use Rattle.requests.proofs.Judged.{judged}
-use Rattle.requests.proofs.Keeping.{answered}
-use Rattle.requests.proofs.Least.{least-counts}
-use Rattle.requests.proofs.Outcomes.{unaltered-so, refused-so}
-use Rattle.watch.proofs.Counting.{least, case-l}
-use Rattle.watch.proofs.Origins.{sound→reached}
-use Rattle.watch.proofs.Reaching.{reached→sound}
-use Rattle.watch.proofs.RunningOn.{runs-on, run-refusals}
-use Rattle.watch.proofs.Starting
-use Rattle.demands.proofs.Measure.{delivers, delivers-covered}
-use Rattle.demands.proofs.Watching.{counting}
+use Rattle.requests.proofs.PlansAreJudged.{plan-iff-yes}
+use Rattle.requests.proofs.SolutionKeeps.{promise-kept}
+use Rattle.requests.proofs.LeastCounts.{counts-are-least}
+use Rattle.requests.proofs.Outcomes.{keeps→unaltered, keeps→refused}
+use Rattle.watch.proofs.CountIsLeast.{count-is-least, case-l}
+use Rattle.watch.proofs.TestedIsReached.{tested→reached}
+use Rattle.watch.proofs.ReachedIsTested.{reached→tested}
+use Rattle.watch.proofs.RunsToLimit.{runs-to-limit, run-refusals}
+use Rattle.watch.proofs.StartAnswers
+use Rattle.demands.proofs.Delivers.{delivers, delivers-covered}
+use Rattle.demands.proofs.WatchIsLeast.{watch-least}
 use Rattle.demands.specs.Demands.{Demand1, Judges, Demand2, Established, Contracts, Demands}
 use Rattle.filter.proofs.filter as Filter
 use Rattle.judge.proofs.judge as Judge
@@ -57,8 +57,8 @@ use Rattle.card.proofs.look_up as LookUp
 use Rattle.view.proofs.view_of as ViewOf
 use Rattle.view.proofs.View.look_up as ViewLookUp
 use Rattle.view.proofs.viewed as Viewed
-use Rattle.listing.proofs.answered as ListingAnswered
-use Rattle.listing.proofs.refused as ListingRefused
+use Rattle.listing.proofs.write_answer as WriteAnswer
+use Rattle.listing.proofs.write_refusal as WriteRefusal
 use Rattle.c_api.proofs.icecoppice_filter as CFilter
 use Rattle.c_api.proofs.icecoppice_judge as CJudge
 use Rattle.c_api.proofs.icecoppice_watch_start as CStart
@@ -71,7 +71,7 @@ use Rattle.settings.proofs.check_shape as CheckShape
 use Rattle.settings.proofs.differ as Differ
 use Rattle.checks.proofs.check_request as CheckRequest
 use Rattle.rule.proofs.class_of as ClassOf
-use Rattle.least.proofs.low as Low
+use Rattle.least.proofs.least_counts as LeastCountsOf
 use Rattle.least.proofs.rows as Rows
 use Rattle.form1.proofs.open as Open
 use Rattle.form1.proofs.range_at as RangeAt
@@ -81,42 +81,44 @@ use Rattle.refusals.proofs.Refusal.slot as RefusedSlot
 demand1 : Demand1
 demand1 =
     record {
-      filter = refused-so;
-      judge = refusing;
-      start = Starting.refusing;
+      filter = keeps→refused;
+      judge = judgment-refuses;
+      start = StartAnswers.start-refuses;
       reader = reader-refuses;
       look-up = look-up-refuses;
       decided = alike;
-      unaltered = unaltered-so;
-      chooser = chooses;
+      unaltered = keeps→unaltered;
+      chooser = chosen→chooses;
       step = λ w load r s. s .kept;
       run = λ w v loads taken f r. run-refusals r;
-      run-on = runs-on;
+      run-to-limit = runs-to-limit;
       reader-unaltered = refused-unaltered;
       filter-for-c = λ r numbers los his ms a. means a;
       judge-for-c = verdict-means;
       start-for-c = start-means;
       step-for-c = λ w load numbers s. step-means s;
-      numbers = same-refusal;
+      numbers = number-slot-injective;
     }
 
--- the judge by a definition that is a corner of the rule on windows
-module _ (s : Settings) (X : List ℤ) (D : List Run → Type 0)
-    (corner : (S : List Run) → D S ↔ Obeys (s .k) (s .shape) (s .windows .most) (s .covered .most) X S) where
+-- the judge, measured by a definition that is a corner of the rule on windows
+module _ (s : Settings) (X : List ℤ) (D : List Sequence → Type 0)
+    (corner : (S : List Sequence) → D S ↔ Obeys (s .k) (s .shape) (s .windows .most) (s .covered .most) X S) where
   sound : (ms : List ℕ) (w c : ℕ) → judgment s X ms ≡ gives (says true w c) →
-      D (runs 0 ms) × (length (runs 0 ms) ≡ w) × (sum size (runs 0 ms) ≡ c)
+      D (sequencesOf 0 ms) × (length (sequencesOf 0 ms) ≡ w) × (sum size (sequencesOf 0 ms) ≡ c)
   sound ms w c j =
-      let (e, a, ew, ec) = said s X ms w c j in
-      let allow : Allowed s X ms = allowing .0 a in
+      let (e, a, ew, ec) = yes→allowed s X ms w c j in
+      let allow : Allowed s X ms = allowed-iff .0 a in
       let (o, number, summed) = theorems .draws (s .k) (s .shape) X ms (allow .in-rule) in (
-        corner (runs 0 ms) .1
-            (recount X _ _ _ _ _ o (omega (arith, number, allow .windows-fit)) (omega (arith, summed, allow .covered-fit))),
+        corner (sequencesOf 0 ms) .1
+            (recount X _ _ _ _ _ o (omega (arith, number, allow .windows-fit))
+            (omega (arith, summed, allow .covered-fit))),
         number ∙ ew,
         summed ∙ ec,
       )
 
-  complete : refusal (length X) false s ≡ none → (S : List Run) → D S →
-      (ms : List ℕ) × (judgment s X ms ≡ gives (says true (length S) (sum size S))) × (runs 0 ms ⊆ S) × (S ⊆ runs 0 ms)
+  complete : refusal (length X) false s ≡ none → (S : List Sequence) → D S →
+      (ms : List ℕ) × (judgment s X ms ≡ gives (says true (length S) (sum size S))) × (sequencesOf 0 ms ⊆ S)
+      × (S ⊆ sequencesOf 0 ms)
   complete e S d =
       let o = corner S .0 d in
       let (ms, legal, into, onto, number, summed) = theorems .drawn (s .k) (s .shape) _ _ X S o in
@@ -125,15 +127,16 @@ module _ (s : Settings) (X : List ℤ) (D : List Run → Type 0)
         windows-fit = omega (arith, number, o .number);
         covered-fit = omega (arith, summed, o .summed);
       } in
-      let same : length ms ≡ length X = as-long (carries (s .k)) (s .shape) X ms legal in
-      let j = saying s X ms (rw (same-lengths _ _ .1 same) e) (allowing .1 allow) in
+      let same : length ms ≡ length X = legal-length (carries (s .k)) (s .shape) X ms legal in
+      let j = allowed→yes s X ms (rw (differs-false _ _ .1 same) e) (allowed-iff .1 allow) in
       (ms, rw (← number, ← summed) j, into, onto)
 
   judging : Judges s X D
   judging = record { sound = sound; complete = complete }
 
--- the four definitions at settings
-corners : (s : Settings) (X : List ℤ) (yc zc : ℕ) (S : List Run) → Corners X yc (s .shape .len) (s .shape .h) (s .k) zc S
+-- the four definitions, at the numbers of given settings
+corners : (s : Settings) (X : List ℤ) (yc zc : ℕ) (S : List Sequence) →
+    Corners X yc (s .shape .len) (s .shape .h) (s .k) zc S
 corners s X yc zc S = theorems .corners X yc _ _ _ zc S
 
 no-bridges : (shape : Shape) → shape .h ≡ 0 → shape ≡ shaped (shape .len) 0
@@ -143,37 +146,52 @@ demand2 : Demand2
 demand2 =
     record {
       weightedSpringy = λ r o f. (
-        delivers r (f .well) _ (λ X n yc S. corners (r .settings) X yc (r .settings .covered .most) S .weightedSpringy) o (f .kept),
-        delivers-covered r (f .well) _ (λ X n zc S. corners (r .settings) X (r .settings .windows .most) zc S .weightedSpringy) o (f .kept),
+        delivers r (f .well) _
+            (λ X n yc S. corners (r .settings) X yc (r .settings .covered .most) S .weightedSpringy) o (f .kept),
+        delivers-covered r (f .well) _
+            (λ X n zc S. corners (r .settings) X (r .settings .windows .most) zc S .weightedSpringy) o (f .kept),
       );
-      weighted = λ r o f h. (
-        delivers r (f .well) _ (λ X n yc S. rw (no-bridges (r .settings .shape) h) (corners (r .settings) X yc (r .settings .covered .most) S .weighted)) o (f .kept),
-        delivers-covered r (f .well) _ (λ X n zc S. rw (no-bridges (r .settings .shape) h) (corners (r .settings) X (r .settings .windows .most) zc S .weighted)) o (f .kept),
+      weighted = λ r o f no-bridge. (
+        delivers r (f .well) _
+            (λ X n yc S. rw (no-bridges (r .settings .shape) no-bridge)
+            (corners (r .settings) X yc (r .settings .covered .most) S .weighted)) o (f .kept),
+        delivers-covered r (f .well) _
+            (λ X n zc S. rw (no-bridges (r .settings .shape) no-bridge)
+            (corners (r .settings) X (r .settings .windows .most) zc S .weighted)) o (f .kept),
       );
-      springy = λ r o f most. delivers r (f .well) _ (λ X n yc S. rw (most, ← n) (corners (r .settings) X yc 0 S .springy)) o (f .kept);
-      focus = λ r o f h most. delivers r (f .well) _ (λ X n yc S. rw (no-bridges (r .settings .shape) h, most, ← n) (corners (r .settings) X yc 0 S .focus)) o (f .kept);
+      springy =
+          λ r o f most. delivers r (f .well) _
+          (λ X n yc S. rw (most, ← n) (corners (r .settings) X yc 0 S .springy)) o (f .kept);
+      focus =
+          λ r o f no-bridge most. delivers r (f .well) _
+          (λ X n yc S. rw (no-bridges (r .settings .shape) no-bridge, most, ← n)
+          (corners (r .settings) X yc 0 S .focus)) o (f .kept);
       judge = λ s X. judging s X _ (λ S. corners s X (s .windows .most) (s .covered .most) S .weightedSpringy);
-      judge-weighted = λ s X h. judging s X _ (λ S. rw (no-bridges (s .shape) h) (corners s X (s .windows .most) (s .covered .most) S .weighted));
+      judge-weighted =
+          λ s X no-bridge. judging s X _
+          (λ S. rw (no-bridges (s .shape) no-bridge) (corners s X (s .windows .most) (s .covered .most) S .weighted));
       judge-springy = λ s X most. judging s X _ (λ S. rw most (corners s X (s .windows .most) 0 S .springy));
-      judge-focus = λ s X h most. judging s X _ (λ S. rw (no-bridges (s .shape) h, most) (corners s X (s .windows .most) 0 S .focus));
-      plans = judged;
-      watch = counting;
+      judge-focus =
+          λ s X no-bridge most. judging s X _
+          (λ S. rw (no-bridges (s .shape) no-bridge, most) (corners s X (s .windows .most) 0 S .focus));
+      plans = plan-iff-yes;
+      watch = watch-least;
     }
 
 established : Established
 established =
     record {
-      kept = answered;
+      kept = promise-kept;
       starred = all-kept;
       case-l = case-l;
-      least-counts = least-counts;
+      counts-are-least = counts-are-least;
       published = theorems;
       examples = examples;
-      watch = least;
-      reached = λ w fits. (reached→sound w, sound→reached w fits);
+      watch = count-is-least;
+      reached = λ w fits. (reached→tested w, tested→reached w fits);
       read-back = read-back;
-      drawn-only = drawn-only;
-      look-ups = agree;
+      only-encoded = only-encoded;
+      look-ups = look-up-agrees;
       decimals = decimals;
       texts = texts;
     }
@@ -192,8 +210,8 @@ contracts =
       view-of = record { meets = ViewOf.Met.met; total = λ M 𝓤 H A mem run κs a. (tt, λ g. refl) };
       view-look-up = record { meets = ViewLookUp.Met.met; total = λ M 𝓤 H A mem run κs a. (tt, λ g. refl) };
       viewed = record { meets = Viewed.Met.met; total = λ M 𝓤 H A mem run κs a. (tt, λ g. refl) };
-      answered = record { meets = ListingAnswered.Met.met; total = λ M 𝓤 H A mem run κs a. (tt, λ g. refl) };
-      refused = record { meets = ListingRefused.Met.met; total = λ M 𝓤 H A mem run κs a. (tt, λ g. refl) };
+      write-answer = record { meets = WriteAnswer.Met.met; total = λ M 𝓤 H A mem run κs a. (tt, λ g. refl) };
+      write-refusal = record { meets = WriteRefusal.Met.met; total = λ M 𝓤 H A mem run κs a. (tt, λ g. refl) };
       filter-for-c = record { meets = CFilter.Met.met; total = λ M 𝓤 H A mem run κs a. (tt, λ g. refl) };
       judge-for-c = record { meets = CJudge.Met.met; total = λ M 𝓤 H A mem run κs a. (tt, λ g. refl) };
       start-for-c = record { meets = CStart.Met.met; total = λ M 𝓤 H A mem run κs a. (tt, λ g. refl) };
@@ -206,7 +224,7 @@ contracts =
       differ = record { meets = Differ.Met.met; total = λ M 𝓤 H A mem run κs a. (tt, λ g. refl) };
       check-request = record { meets = CheckRequest.Met.met; total = λ M 𝓤 H A mem run κs a. (tt, λ g. refl) };
       class-of = record { meets = ClassOf.Met.met; total = λ M 𝓤 H A mem run κs a. (tt, λ g. refl) };
-      low = record { meets = Low.Met.met; total = λ M 𝓤 H A mem run κs a. (tt, λ g. refl) };
+      least-counts = record { meets = LeastCountsOf.Met.met; total = λ M 𝓤 H A mem run κs a. (tt, λ g. refl) };
       rows = record { meets = Rows.Met.met; total = λ M 𝓤 H A mem run κs a. (tt, λ g. refl) };
       «open» = record { meets = Open.Met.met; total = λ M 𝓤 H A mem run κs a. (tt, λ g. refl) };
       range-at = record { meets = RangeAt.Met.met; total = λ M 𝓤 H A mem run κs a. (tt, λ g. refl) };
@@ -215,4 +233,5 @@ contracts =
     }
 
 pub demands : Demands
-demands = record { first = demand1; second = demand2; third = demand3; established = established; contracts = contracts }
+demands =
+    record { first = demand1; second = demand2; third = demand3; established = established; contracts = contracts }

@@ -1,3 +1,3 @@
 pub mod Demands
-pub mod Measure
-pub mod Watching
+pub mod Delivers
+pub mod WatchIsLeast

@@ -1,11 +1,11 @@
--- The three demands on one page, over every operation that a caller can reach. Each line is a theorem, or says that an operation
--- meets its contract, which asks nothing of the caller (`Contracts`, at the end). What relates two crates is proved in proofs/, all
--- else where its subject is.
+-- The three demands on one page, over every operation that a caller can reach. Each line is a theorem, or says that
+-- an operation meets its contract, which asks nothing of the caller (`Contracts`, at the end). What relates two
+-- crates is proved in proofs/, all else where its subject is.
 --
--- What an operation hands back is known by its contract, and by nothing else. What the filter hands back for a request r is an
--- outcome o with `Keeps r o`: each line below that has `Keeps` speaks of it. What the judge tells is `judgment`, what the chooser hands
--- back is `Chosen`, what a watch gives is `starting`, `Steps` and `Runs`, what the reader leaves is `reading`, and what a look-up gives,
--- also through a view, is `looking`.
+-- What an operation hands back is known from its contract, and from nothing else. What the filter hands back for a
+-- request r is an outcome o with `Keeps r o`: each line below that has `Keeps` speaks of it. What the judge answers
+-- is `judgment`, what the chooser hands back is `Chosen`, what a watch gives is `starting`, `Steps` and `Runs`, what
+-- the reader leaves is `reading`, and what a look-up gives, also through a view, is `looking`.
 use Prim.Native.Nat.{ℕ, _≤_, _<_, max}
 use mathlib.Core.Bool.{true, false}
 use mathlib.Core.List.{List}
@@ -29,26 +29,29 @@ use Rattle.settings.specs.declared.CountRange.{CountRange}
 use Rattle.settings.specs.declared.Settings.{Settings}
 use Rattle.judge.specs.Judgment.{says, judgeRefusal, judgment}
 use Rattle.chooser.specs.Choice.{Chosen, Chooses}
-use Rattle.published.specs.Published.{Run, size, sum, _⊆_, Focus, SpringyFocus, WeightedFocus, WeightedSpringyFocus, runs, Theorems}
+use Rattle.published.specs.Published.{Sequence, size, sum, _⊆_, Focus, SpringyFocus, WeightedFocus}
+use Rattle.published.specs.Published.{WeightedSpringyFocus, sequencesOf, Theorems}
 use Rattle.published.specs.Examples.{Examples}
 use Rattle.requests.specs.Cases.{cases, Kept}
 use Rattle.requests.specs.Demand3.{Demand3}
 use Rattle.requests.specs.Promise.{Outcome, Says, SaysPlanned, SaysNoPlan, Held, Unaltered, YesFor, Keeps, Alike}
-use Rattle.requests.specs.Request.{Request, slots, paired, ranges, at, refused, WellFormed, PlanOf}
+use Rattle.requests.specs.Request.{Request, slots, paired, ranges, at, filterRefusal, WellFormed, PlanOf}
 use Rattle.requests.specs.declared.PlanCounts.{PlanCounts}
-use Rattle.requests.specs.Solution.{LeastCounts}
-use Rattle.watch.specs.Promise.{starting, told, Steps, Runs, RunsFrom, Least as Watch·Least, CaseL}
-use Rattle.watch.specs.States.{startRefusal, Leads, Reached}
-use Rattle.watch.specs.Tested.{Sound}
+use Rattle.requests.specs.Solution.{CountsAreLeast}
+use Rattle.watch.specs.Promise.{meaning, Steps, Runs, RunsFromReached, CountIsLeast, CaseL}
+use Rattle.watch.specs.Start.{starting}
+use Rattle.watch.specs.States.{startRefusal, LeadsTo, Reached}
+use Rattle.watch.specs.Tested.{Tested}
 use Rattle.watch.specs.declared.Watch.{Watch}
 use Rattle.watch.specs.declared.step.Stepped.{Stepped}
 use Rattle.form1.specs.Form1.{refusal as File·refusal}
-use Rattle.form1.specs.Layout.{ReadBack, DrawnOnly}
-use Rattle.card.specs.Reading.{lentTooShort, reading, noSlot, looking, Agree}
+use Rattle.form1.specs.Layout.{ReadBack, OnlyEncoded}
+use Rattle.card.specs.Reading.{lentTooShort, reading}
+use Rattle.card.specs.LookUp.{noSlot, looking, LookUpAgrees}
 use Rattle.listing.specs.Cases.{Cases as Listing·Cases}
 use Rattle.listing.specs.Text.{Decimal}
-use Rattle.c_api.specs.Numbers.{Answered, Means, VerdictMeans}
-use Rattle.c_api.specs.WatchNumbers.{Stepping, StartMeans, StepMeans}
+use Rattle.c_api.specs.Numbers.{KeepsInNumbers, Means, VerdictMeans}
+use Rattle.c_api.specs.WatchNumbers.{StepsInNumbers, StartMeans, StepMeans}
 use Rattle.c_api.specs.declared.AnswerNumbers.{AnswerNumbers}
 use Rattle.c_api.specs.declared.watches.StepNumbers.{StepNumbers}
 use Rattle.demands.specs.Operation.{Operation}
@@ -63,8 +66,8 @@ use Rattle.card.proofs.look_up as LookUp
 use Rattle.view.proofs.view_of as ViewOf
 use Rattle.view.proofs.View.look_up as ViewLookUp
 use Rattle.view.proofs.viewed as Viewed
-use Rattle.listing.proofs.answered as ListingAnswered
-use Rattle.listing.proofs.refused as ListingRefused
+use Rattle.listing.proofs.write_answer as WriteAnswer
+use Rattle.listing.proofs.write_refusal as WriteRefusal
 use Rattle.c_api.proofs.icecoppice_filter as CFilter
 use Rattle.c_api.proofs.icecoppice_judge as CJudge
 use Rattle.c_api.proofs.icecoppice_watch_start as CStart
@@ -77,19 +80,21 @@ use Rattle.settings.proofs.check_shape as CheckShape
 use Rattle.settings.proofs.differ as Differ
 use Rattle.checks.proofs.check_request as CheckRequest
 use Rattle.rule.proofs.class_of as ClassOf
-use Rattle.least.proofs.low as Low
+use Rattle.least.proofs.least_counts as LeastCountsOf
 use Rattle.least.proofs.rows as Rows
 use Rattle.form1.proofs.open as Open
 use Rattle.form1.proofs.range_at as RangeAt
 use Rattle.refusals.proofs.Refusal.number as Number
 use Rattle.refusals.proofs.Refusal.slot as RefusedSlot
 
--- Demand 1: every input gets a result or one numbered refusal (from the chooser, an empty part), and what is lent is unaltered after
--- a refusal or a "no plan". That every input may be given is said by `Contracts`. The judge, the chooser, the watch, the look-up and
--- the view take values and shared slices, and write nothing; the listing refuses nothing.
+-- Demand 1: every input gets a result or one numbered refusal (from the chooser, an empty part), and what is lent is
+-- unaltered after a refusal or a "no plan". That every input may be given follows from `Contracts`. The judge, the
+-- chooser, the watch, the look-up and the view take values and shared slices, and write nothing; the listing refuses
+-- nothing.
 pub record Demand1 : Type 0 where
   -- the filter refuses with the first refusal that applies, and in no other situation
-  pub filter : (r : Request) (o : Outcome) → Keeps r o → (f : Refusal) → (o .answer ≡ refuses f) ↔ (refused r ≡ some f)
+  pub filter : (r : Request) (o : Outcome) → Keeps r o → (f : Refusal) →
+      (o .answer ≡ refuses f) ↔ (filterRefusal r ≡ some f)
   -- so do the judge, a watch's start, the reader and the look-up
   pub judge : (s : Settings) (loads : List ℤ) (marks : List ℕ) (f : Refusal) →
       (judgment s loads marks ≡ refuses f) ↔ (judgeRefusal s loads marks ≡ some f)
@@ -102,56 +107,62 @@ pub record Demand1 : Type 0 where
   pub decided : (r : Request) (o p : Outcome) → Keeps r o → Keeps r p → Alike o p
   pub unaltered : (r : Request) (o : Outcome) → Keeps r o →
       (SaysNoPlan o → Unaltered r o) × ((f : Refusal) → o .answer ≡ refuses f → Unaltered r o)
-  -- the chooser hands back one of the two plans, to which the judge says yes; or the empty part, exactly where the judge refuses one
-  -- of the two or says no to both
+  -- the chooser hands back one of the two plans, to which the judge says yes; or the empty part, exactly where the
+  -- judge refuses one of the two or says no to both
   pub chooser : (s : Settings) (loads : List ℤ) (a b r : RefT (List ℕ)) → Chosen s loads a b r → Chooses s loads a b r
   -- a refusal of a step is 32 or 33, each exactly when `Steps` says, and keeps the state
-  pub step : (w : Watch) (load : ℤ) (r : Stepped) → Steps w load r → (f : Refusal) → told (r .answer) ≡ refuses f →
+  pub step : (w : Watch) (load : ℤ) (r : Stepped) → Steps w load r → (f : Refusal) → meaning (r .answer) ≡ refuses f →
       ((f ≡ Unreached) ⊎ (f ≡ Full)) × (r .watch ≡ w)
-  -- a run is refused by one of its steps; from a state that loads lead to, with 33, exactly when the limit leaves loads over
-  pub run : (w v : Watch) (loads : List ℤ) (taken : ℕ) (f : Refusal) → Runs w loads v taken (some f) → (f ≡ Unreached) ⊎ (f ≡ Full)
-  pub run-on : RunsFrom
-  -- the reader that refuses leaves both slices as they were
+  -- a run is refused by one of its steps; from a state that loads lead to, it is refused with 33, exactly when loads
+  -- are left after the limit is reached
+  pub run : (w v : Watch) (loads : List ℤ) (taken : ℕ) (f : Refusal) → Runs w loads v taken (some f) →
+      (f ≡ Unreached) ⊎ (f ≡ Full)
+  pub run-to-limit : RunsFromReached
+  -- where the reader refuses, it leaves both slices as they were
   pub reader-unaltered : (file : List ℕ) (los his : List ℤ) (f : Refusal) → reading file los his .answer ≡ refuses f →
       (reading file los his .lowest ≡ los) × (reading file los his .highest ≡ his)
-  -- for C, the numbers tell which of these it was, and the filter's lent slices are as it leaves them
-  pub filter-for-c : (r : Request) (numbers : AnswerNumbers) (los his : List ℤ) (ms : List ℕ) → Answered r numbers los his ms →
+  -- for C, the numbers tell which of these answers it was, and the filter's lent slices are as it leaves them
+  pub filter-for-c : (r : Request) (numbers : AnswerNumbers) (los his : List ℤ) (ms : List ℕ) →
+      KeepsInNumbers r numbers los his ms →
       Means r numbers los his ms
   pub judge-for-c : (s : Settings) (loads : List ℤ) (marks : List ℕ) → VerdictMeans s loads marks
   pub start-for-c : StartMeans
-  pub step-for-c : (w : Watch) (load : ℤ) (numbers : StepNumbers) → Stepping w load numbers → StepMeans w load numbers
+  pub step-for-c : (w : Watch) (load : ℤ) (numbers : StepNumbers) → StepsInNumbers w load numbers →
+      StepMeans w load numbers
   -- and no two refusals share number and slot
   pub numbers : (f g : Refusal) → number f ≡ number g → slot f ≡ slot g → f ≡ g
 
 -- Demand 2, measured against the published definitions.
 
--- a definition, of loads and a set of sequences, with one of its two maximums given
+-- a definition as a property of loads, one of its two maximums and a set of sequences, with its other numbers fixed
 abbrev pub Definition : Type 1
-Definition = (X : List ℤ) (most : ℕ) (S : List Run) → Type 0
+Definition = (X : List ℤ) (most : ℕ) (S : List Sequence) → Type 0
 
 -- some choice of loads in the ranges satisfies D
 abbrev pub Satisfied : Request → Definition → (most : ℕ) → Type 0
-Satisfied r D most = (X : List ℤ) × ChosenIn (ranges r) X × (S : List Run) × D X most S
+Satisfied r D most = (X : List ℤ) × ChosenIn (ranges r) X × (S : List Sequence) × D X most S
 
 -- load x occurs at slot i in such a choice
 abbrev pub Occurs : Request → Definition → (most i : ℕ) (x : ℤ) → Type 0
-Occurs r D most i x = (X : List ℤ) × ChosenIn (ranges r) X × (i < length X) × (at X i ≡ x) × (S : List Run) × D X most S
+Occurs r D most i x =
+    (X : List ℤ) × ChosenIn (ranges r) X × (i < length X) × (at X i ≡ x) × (S : List Sequence) × D X most S
 
--- the least of the numbers that P holds of
-pub record Least (P : ℕ → Type 0) (v : ℕ) : Type 0 where
+-- v is the least of the numbers that P holds of
+pub record LeastNumber (P : ℕ → Type 0) (v : ℕ) : Type 0 where
   pub met : P v
   pub least : (u : ℕ) → P u → v ≤ u
 
--- the minimum handed back is the true least count, or the given minimum where that is larger; the maximum is the given one
-pub record TrueLeast (r : Request) (D : Definition) (given handed : CountRange) : Type 0 where
+-- the minimum handed back is the true least count, or the given minimum where that is larger; the maximum handed back
+-- is the given one
+pub record TrueLeast (r : Request) (D : Definition) (given returned : CountRange) : Type 0 where
   pub value : ℕ
-  pub least : Least (λ u. (u ≤ given .most) × Satisfied r D u) value
-  pub minimum : handed .least ≡ max (given .least) value
-  pub maximum : handed .most ≡ given .most
+  pub least : LeastNumber (λ u. (u ≤ given .most) × Satisfied r D u) value
+  pub minimum : returned .least ≡ max (given .least) value
+  pub maximum : returned .most ≡ given .most
 
--- What is handed back for r, by a definition D with its maximum of windows
+-- What is handed back for r, measured by a definition D that takes a maximum of windows.
 pub record Delivers (r : Request) (D : Definition) (o : Outcome) : Type 0 where
-  -- "no plan" is said exactly when no choice of loads in the ranges can be covered within the maximums
+  -- the answer is "no plan" exactly when no choice of loads in the ranges can be covered within the maximums
   pub none : SaysNoPlan o ↔ (Satisfied r D (r .settings .windows .most) → ⊥)
   -- where some choice can, the answer is "planned"
   pub some : Satisfied r D (r .settings .windows .most) → SaysPlanned o
@@ -159,11 +170,12 @@ pub record Delivers (r : Request) (D : Definition) (o : Outcome) : Type 0 where
   -- each load left in a range occurs in a plan, each load removed in none
   pub loads : (n : PlanCounts) → Says o n → (i : ℕ) → i < slots r → (x : ℤ) →
       Held o i x ↔ Occurs r D (r .settings .windows .most) i x
-  -- the plan handed back is one of them, for loads that are left
+  -- the plan handed back satisfies D, for loads that are left
   pub plan : (n : PlanCounts) → Says o n →
-      (X : List ℤ) × ChosenIn (paired (o .lowest) (o .highest)) X × D X (r .settings .windows .most) (runs 0 (o .marks))
+      (X : List ℤ) × ChosenIn (paired (o .lowest) (o .highest)) X
+      × D X (r .settings .windows .most) (sequencesOf 0 (o .marks))
 
--- What is handed back for r, by a definition D with its maximum of summed length
+-- What is handed back for r, measured by a definition D that takes a maximum of summed length.
 pub record DeliversCovered (r : Request) (D : Definition) (o : Outcome) : Type 0 where
   pub some : Satisfied r D (r .settings .covered .most) → SaysPlanned o
   pub covered : (n : PlanCounts) → Says o n → TrueLeast r D (r .settings .covered) (n .covered)
@@ -173,28 +185,32 @@ pub record Filtered (r : Request) (o : Outcome) : Type 0 where
   pub well : WellFormed r
   pub kept : Keeps r o
 
--- The judge, by a definition D of the windows drawn
-pub record Judges (s : Settings) (X : List ℤ) (D : List Run → Type 0) : Type 0 where
-  -- says yes to nothing but what it allows, with the counts of these windows,
+-- What the judge says, measured by a definition D of the windows that marks draw.
+pub record Judges (s : Settings) (X : List ℤ) (D : List Sequence → Type 0) : Type 0 where
+  -- it says yes only to marks whose windows D allows, and gives the counts of these windows
   pub sound : (ms : List ℕ) (w c : ℕ) → judgment s X ms ≡ gives (says true w c) →
-      D (runs 0 ms) × (length (runs 0 ms) ≡ w) × (sum size (runs 0 ms) ≡ c)
-  -- and to all that it allows
-  pub complete : refusal (length X) false s ≡ none → (S : List Run) → D S →
-      (ms : List ℕ) × (judgment s X ms ≡ gives (says true (length S) (sum size S))) × (runs 0 ms ⊆ S) × (S ⊆ runs 0 ms)
+      D (sequencesOf 0 ms) × (length (sequencesOf 0 ms) ≡ w) × (sum size (sequencesOf 0 ms) ≡ c)
+  -- for every set of windows that D allows, it says yes to marks that draw this set
+  pub complete : refusal (length X) false s ≡ none → (S : List Sequence) → D S →
+      (ms : List ℕ) × (judgment s X ms ≡ gives (says true (length S) (sum size S)))
+      × (sequencesOf 0 ms ⊆ S) × (S ⊆ sequencesOf 0 ms)
 
 pub record Demand2 : Type 0 where
   pub weightedSpringy : (r : Request) (o : Outcome) → Filtered r o → let s = r .settings in
       Delivers r (λ X yc S. WeightedSpringyFocus X yc (s .shape .len) (s .shape .h) (s .k) (s .covered .most) S) o
-      × DeliversCovered r (λ X zc S. WeightedSpringyFocus X (s .windows .most) (s .shape .len) (s .shape .h) (s .k) zc S) o
+      × DeliversCovered r
+      (λ X zc S. WeightedSpringyFocus X (s .windows .most) (s .shape .len) (s .shape .h) (s .k) zc S) o
   -- with h = 0
   pub weighted : (r : Request) (o : Outcome) → Filtered r o → r .settings .shape .h ≡ 0 → let s = r .settings in
       Delivers r (λ X yc S. WeightedFocus X yc (s .shape .len) (s .k) (s .covered .most) S) o
       × DeliversCovered r (λ X zc S. WeightedFocus X (s .windows .most) (s .shape .len) (s .k) zc S) o
   -- with a covered maximum of n
-  pub springy : (r : Request) (o : Outcome) → Filtered r o → r .settings .covered .most ≡ slots r → let s = r .settings in
+  pub springy : (r : Request) (o : Outcome) → Filtered r o → r .settings .covered .most ≡ slots r →
+      let s = r .settings in
       Delivers r (λ X yc S. SpringyFocus X yc (s .shape .len) (s .shape .h) (s .k) S) o
   -- with both
-  pub focus : (r : Request) (o : Outcome) → Filtered r o → r .settings .shape .h ≡ 0 → r .settings .covered .most ≡ slots r →
+  pub focus : (r : Request) (o : Outcome) → Filtered r o → r .settings .shape .h ≡ 0 →
+      r .settings .covered .most ≡ slots r →
       let s = r .settings in Delivers r (λ X yc S. Focus X yc (s .shape .len) (s .k) S) o
   -- the judge of finished plans, in the same order
   pub judge : (s : Settings) (X : List ℤ) →
@@ -205,33 +221,33 @@ pub record Demand2 : Type 0 where
       Judges s X (SpringyFocus X (s .windows .most) (s .shape .len) (s .shape .h) (s .k))
   pub judge-focus : (s : Settings) (X : List ℤ) → s .shape .h ≡ 0 → s .covered .most ≡ length X →
       Judges s X (Focus X (s .windows .most) (s .shape .len) (s .k))
-  -- filter and judge agree: the plans of a request are the marks to which the judge says yes with their counts, for some
-  -- loads in its ranges
+  -- filter and judge agree: the plans of a request are the marks to which the judge says yes with their counts, for
+  -- some loads in its ranges
   pub plans : (r : Request) → WellFormed r → (ms : List ℕ) → PlanOf r ms ↔ YesFor (r .settings) (ranges r) ms
-  -- the watch counts the least number of windows, without a maximum, for the loads that led to its state
-  pub watch : (k : ℤ) (shape : Shape) (X : List ℤ) (w : Watch) → Leads k shape X w →
-      Least (λ yc. (S : List Run) × SpringyFocus X yc (shape .len) (shape .h) k S) (w .windows)
+  -- the watch counts the least number of windows, without a maximum, for the loads that lead to its state
+  pub watch : (k : ℤ) (shape : Shape) (X : List ℤ) (w : Watch) → LeadsTo k shape X w →
+      LeastNumber (λ yc. (S : List Sequence) × SpringyFocus X yc (shape .len) (shape .h) k S) (w .windows)
 
--- What is established beside the demands. Nothing else cites most of it, so that only its place here keeps it.
+-- What is established beside the demands. Most of it is cited nowhere else, so only its place here keeps it.
 pub record Established : Type 0 where
   -- every request has an outcome that keeps the filter's promise
   pub kept : (r : Request) → (o : Outcome) × Keeps r o
   -- the starred cases of document 01, and case L
   pub starred : Kept cases
   pub case-l : CaseL
-  -- the computed least counts are the true ones for every number of slots, and what they are for unchecked settings
-  pub least-counts : (s : Settings) (cs : List Class) → LeastCounts s cs
-  -- the published definitions, the rule on windows, and legal marks, for loads and for ranges; examples that the papers
-  -- work out
+  -- the computed least counts are the true ones for every number of slots; also what they are for unchecked settings
+  pub counts-are-least : (s : Settings) (cs : List Class) → CountsAreLeast s cs
+  -- the published definitions, the rule on windows, and legal marks, for loads and for ranges; examples that the
+  -- papers work out
   pub published : Theorems
   pub examples : Examples
   -- a watch's count is the least over all legal marks, and what `step` tests of a state is whether loads lead there
-  pub watch : Watch·Least
-  pub reached : (w : Watch) → SFits w32 (w .k) → Reached w ↔ Sound w
-  -- form 1 read from its end is form 1 drawn from its front; the look-up gives what the reader does
+  pub watch : CountIsLeast
+  pub reached : (w : Watch) → SFits w32 (w .k) → Reached w ↔ Tested w
+  -- form 1 read from its end is form 1 encoded from its front; the look-up gives what the reader does
   pub read-back : ReadBack
-  pub drawn-only : DrawnOnly
-  pub look-ups : Agree
+  pub only-encoded : OnlyEncoded
+  pub look-ups : LookUpAgrees
   -- numbers as text, and the texts that document 01 prints
   pub decimals : (n : ℕ) → Decimal n
   pub texts : Listing·Cases
@@ -254,15 +270,15 @@ pub record Contracts : Type 2 where
   pub view-look-up : Operation ViewLookUp.Statement.statement ViewLookUp.signature (λ M 𝓤. ViewLookUp.spec 𝓤)
   pub viewed : Operation Viewed.Statement.statement Viewed.signature (λ M 𝓤. Viewed.spec 𝓤)
   -- crates/listing/src
-  pub answered : Operation ListingAnswered.Statement.statement ListingAnswered.signature (λ M 𝓤. ListingAnswered.spec 𝓤)
-  pub refused : Operation ListingRefused.Statement.statement ListingRefused.signature (λ M 𝓤. ListingRefused.spec 𝓤)
+  pub write-answer : Operation WriteAnswer.Statement.statement WriteAnswer.signature (λ M 𝓤. WriteAnswer.spec 𝓤)
+  pub write-refusal : Operation WriteRefusal.Statement.statement WriteRefusal.signature (λ M 𝓤. WriteRefusal.spec 𝓤)
   -- crates/c_api/src
   pub filter-for-c : Operation CFilter.Statement.statement CFilter.signature (λ M 𝓤. CFilter.spec 𝓤)
   pub judge-for-c : Operation CJudge.Statement.statement CJudge.signature (λ M 𝓤. CJudge.spec 𝓤)
   pub start-for-c : Operation CStart.Statement.statement CStart.signature (λ M 𝓤. CStart.spec 𝓤)
   pub step-for-c : Operation CStep.Statement.statement CStep.signature (λ M 𝓤. CStep.spec 𝓤)
-  -- what these share: the test of a load, checks, a slot's class and least counts, a file's trailer and records, and the
-  -- number and slot of a refusal
+  -- what these share: the test of a load, checks, a slot's class and least counts, a file's trailer and records, and
+  -- the number and slot of a refusal
   pub over : Operation Over.Statement.statement Over.signature (λ M 𝓤. Over.spec 𝓤)
   pub check : Operation Check.Statement.statement Check.signature (λ M 𝓤. Check.spec 𝓤)
   pub check-lengths : Operation CheckLengths.Statement.statement CheckLengths.signature (λ M 𝓤. CheckLengths.spec 𝓤)
@@ -271,14 +287,14 @@ pub record Contracts : Type 2 where
   pub differ : Operation Differ.Statement.statement Differ.signature (λ M 𝓤. Differ.spec 𝓤)
   pub check-request : Operation CheckRequest.Statement.statement CheckRequest.signature (λ M 𝓤. CheckRequest.spec 𝓤)
   pub class-of : Operation ClassOf.Statement.statement ClassOf.signature (λ M 𝓤. ClassOf.spec 𝓤)
-  pub low : Operation Low.Statement.statement Low.signature (λ M 𝓤. Low.spec 𝓤)
+  pub least-counts : Operation LeastCountsOf.Statement.statement LeastCountsOf.signature (λ M 𝓤. LeastCountsOf.spec 𝓤)
   pub rows : Operation Rows.Statement.statement Rows.signature (λ M 𝓤. Rows.spec 𝓤)
   pub «open» : Operation Open.Statement.statement Open.signature (λ M 𝓤. Open.spec 𝓤)
   pub range-at : Operation RangeAt.Statement.statement RangeAt.signature (λ M 𝓤. RangeAt.spec 𝓤)
   pub number : Operation Number.Statement.statement Number.signature (λ M 𝓤. Number.spec 𝓤)
   pub slot : Operation RefusedSlot.Statement.statement RefusedSlot.signature (λ M 𝓤. RefusedSlot.spec 𝓤)
 
--- Demand 3 stands in crates/requests/specs/Demand3.antt, of the definitions and of what the filter hands back.
+-- Demand 3 is stated in crates/requests/specs/Demand3.antt, for the definitions and for what the filter hands back.
 pub record Demands : Type 2 where
   pub first : Demand1
   pub second : Demand2

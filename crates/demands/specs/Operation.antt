@@ -17,7 +17,8 @@ abbrev pub Contract : Signature → Type 2
 Contract S =
     (M : Type 1) (𝓤 : URA M) (H : Heap 𝓤) (A : Atoms 𝓤) (mem : Memory → SProp 𝓤) (run : Routine → Fun 𝓤) → Spec 𝓤 S
 
--- whatever is passed, there is a ghost value to call it with, and it has no `requires`, which is to say that it requires `emp`
+-- whatever is passed, there is a ghost value to call the operation with; and the contract has no `requires`, which is
+-- to say that it requires `emp`
 abbrev pub Total : (S : Signature) → Contract S → Type 2
 Total S contract =
     (M : Type 1) (𝓤 : URA M) (H : Heap 𝓤) (A : Atoms 𝓤) (mem : Memory → SProp 𝓤) (run : Routine → Fun 𝓤) →

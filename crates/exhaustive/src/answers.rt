@@ -1,4 +1,4 @@
-// What the filter answers, in numbers, and what it gives small requests.
+// The filter's answer in numbers, and what the filter hands back for small requests.
 ghost use Prim.Native.Nat.{_≤_};
 use crate::samples::Request;
 use filter::Answer;
@@ -9,15 +9,14 @@ use settings::Settings;
 // What the marks hold before the filter is called.
 pub const UNTOUCHED: u8 = 9;
 
-// The codes of an answer that is no refusal: planned, "no plan", and planned with a maximum that moved.
+// The codes of an answer that is no refusal: planned, "no plan", and planned with a changed maximum.
 pub const PLANNED: u16 = 0;
 
 pub const NO_PLAN: u16 = 1;
 
 const MOVED: u16 = 2;
 
-// A code or a refusal's number, the slot of refusal 31, and both minimums, for which the highest number stands where
-// there is no plan.
+// A code or a refusal's number, the slot of refusal 31, and both minimums. Without a plan both minimums are 65,535.
 pub struct Outcome {
     pub code: u16,
     pub slot: usize,
@@ -25,7 +24,7 @@ pub struct Outcome {
     pub covered: u16,
 }
 
-// The answer, and what the three slices hold then.
+// The answer, and what the three slices hold after the call.
 pub struct Given {
     pub outcome: Outcome,
     pub lowest: [i32; 8],
@@ -64,8 +63,8 @@ fn call(settings: Settings, n: usize, lowest: [i32; 8], highest: [i32; 8]) -> Gi
 pub fn outcome_of(settings: Settings, answer: Answer) -> Outcome {
     match answer {
         Answer::Planned(counts) => planned(settings, counts),
-        Answer::NoPlan => without(NO_PLAN, 0),
-        Answer::Refused(refusal) => without(refusal.number(), refusal.slot()),
+        Answer::NoPlan => without_plan(NO_PLAN, 0),
+        Answer::Refused(refusal) => without_plan(refusal.number(), refusal.slot()),
     }
 }
 
@@ -80,7 +79,7 @@ fn planned(settings: Settings, counts: PlanCounts) -> Outcome {
     }
 }
 
-fn without(code: u16, slot: usize) -> Outcome {
+fn without_plan(code: u16, slot: usize) -> Outcome {
     Outcome {
         code,
         slot,
@@ -89,8 +88,8 @@ fn without(code: u16, slot: usize) -> Outcome {
     }
 }
 
-// Whether planned stays planned, with at most so many windows more, and neither is refused.
-pub fn stays(before: Outcome, after: Outcome, more: u32) -> bool
+// Whether neither is refused, planned stays planned, and the least number of windows grows by no more than `more`.
+pub fn stays_planned(before: Outcome, after: Outcome, more: u32) -> bool
     requires { ⌜ more ≤ 1 ⌝ }
 {
     (before.code <= NO_PLAN)

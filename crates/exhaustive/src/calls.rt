@@ -1,9 +1,9 @@
-// Calls at and around the limits of document 01's table of refusals, by number. The digits of a number are, from the
-// lowest on: 6 of len, 5 of h, 6 of the slots, 3 of the length of the marks, 16 of the window range, 16 of the covered
-// range, 3 of the length of the highest loads, and 4 of the crossed slots. The first two digits, with 64 slots, make
-// the starts of a watch; the judge has no highest loads and no crossed slots.
+// Calls at and around the limits of document 01's table of refusals, by number. Each digit of a number chooses one part
+// of the call. From the lowest on there are 6 choices of len, 5 of h, 6 of the slots, 3 of the length of the marks, 16
+// of the window range, 16 of the covered range, 3 of the length of the highest loads, and 4 of the crossed slots. The
+// first two digits, with 64 slots, make the starts of a watch; the judge has no highest loads and no crossed slots.
 ghost use Prim.Native.Nat.{_≤_, _<_};
-use crate::numbers::less;
+use crate::numbers::saturating_sub;
 use rule::Shape;
 use settings::CountRange;
 use settings::Settings;
@@ -47,11 +47,11 @@ fn other_length(n: u16, digit: u32) -> u16
     match digit {
         0 => n,
         1 => n + 1,
-        _ => less(n, 1),
+        _ => saturating_sub(n, 1),
     }
 }
 
-// Each count is around n.
+// The limits of both count ranges are around n.
 pub fn settings(call: u32) -> Settings {
     let n = slots(call);
     Settings {
@@ -67,7 +67,7 @@ pub fn shape(call: u32) -> Shape {
     let len = around(slots(call), call % 6);
     Shape {
         len,
-        h: around(less(len, 2), call / 6 % 5),
+        h: around(saturating_sub(len, 2), call / 6 % 5),
     }
 }
 
@@ -93,19 +93,19 @@ fn around(limit: u16, digit: u32) -> u16
     }
 }
 
-// The first crossed slot, which is the first slot, the last, or one in the middle; or one that no slice has.
+// The first crossed slot: the first slot, the last, one in the middle, or slot 65, which no slice has.
 pub fn crossed(call: u32) -> u16
     ensures { λ r. ⌜ r ≤ 65 ⌝ }
 {
     match call / 414720 {
         0 => 65,
         1 => 0,
-        2 => less(slots(call), 1),
+        2 => saturating_sub(slots(call), 1),
         _ => slots(call) / 2,
     }
 }
 
-// The lowest loads, where all highest loads are 0. Beside the slot in the middle the next one is crossed too.
+// The lowest loads; all highest loads are 0. Where the slot in the middle is crossed, the next one is crossed too.
 pub fn lowest(call: u32) -> [i32; 67] {
     let slot = crossed(call) as usize;
     let mut loads = [0; 67];

@@ -1,7 +1,7 @@
 // Counts of comparisons, and the parts of a line of output.
 use libc::STDOUT_FILENO;
 
-// How many were compared, how many of these were planned, said yes to or have a window, and how many differ.
+// How many were compared, how many of these were planned, judged yes or have a window, and how many differ.
 pub struct Tally {
     pub compared: u32,
     pub met: u32,
@@ -18,7 +18,7 @@ impl Tally {
     }
 }
 
-// One more, if so. The highest count stays.
+// One more if `more` holds. The highest count stays as it is.
 pub fn add(count: u32, more: bool) -> u32 {
     if !more {
         return count;

@@ -1,4 +1,4 @@
-// The filter beside the search.
+// Compares the filter with the search.
 ghost use Prim.Native.Nat.{_≤_};
 use crate::answers::Given;
 use crate::answers::NO_PLAN;
@@ -10,10 +10,10 @@ use crate::loads::ABOVE;
 use crate::loads::load;
 use crate::numbers::larger;
 use crate::samples::Request;
-use crate::samples::numbered;
+use crate::samples::sample_request;
 use crate::search::Found;
-use crate::search::count;
 use crate::search::is_plan;
+use crate::search::occurrences;
 use crate::search::search;
 
 // A bit for each of 8 slots.
@@ -22,7 +22,7 @@ const ALL: usize = 255;
 pub fn compare(tally: Tally, n: u16, number: usize) -> Tally
     requires { ⌜ n ≤ 8 ⌝ }
 {
-    let request = numbered(n, 2, number);
+    let request = sample_request(n, 2, number);
     let given = ask(request, n);
     let lowest = request.lowest;
     let highest = request.highest;
@@ -49,10 +49,10 @@ fn is_unaltered(request: Request, n: usize, given: Given) -> bool
     requires { ⌜ n ≤ 8 ⌝ }
 {
     let marks = given.marks;
-    is_narrowed(request, n, given, ALL, ALL) & (count(marks, 0, 8, UNTOUCHED) == 8)
+    is_narrowed(request, n, given, ALL, ALL) & (occurrences(marks, 0, 8, UNTOUCHED) == 8)
 }
 
-// Whether each slot lost the side of k that it has no bit for, and nothing else.
+// Whether each slot's range lost the side of k for which the slot has no bit, and nothing else.
 fn is_narrowed(request: Request, n: usize, given: Given, under: usize, over: usize) -> bool
     requires { ⌜ n ≤ 8 ⌝ }
 {
@@ -66,7 +66,7 @@ fn is_narrowed(request: Request, n: usize, given: Given, under: usize, over: usi
         & is_cut(n, k, k, highest, given_highest, over, true)
 }
 
-// Whether the first n loads became these.
+// Whether each of the first n loads of `after` is what `cut` makes of the same slot's load in `before`.
 fn is_cut(
     n: usize,
     k: i32,
@@ -88,7 +88,7 @@ fn is_cut(
     true
 }
 
-// Moves a load to the bound if it is on one side of k, the over one or the other, and its slot does not keep that side.
+// Moves a load to the bound if it is on the side of k that `over` names and its slot does not keep that side.
 fn cut(load: i32, k: i32, bound: i32, keeps: bool, over: bool) -> i32 {
     if keeps | ((load > k) != over) {
         load

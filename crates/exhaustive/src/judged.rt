@@ -1,7 +1,7 @@
-// The judge beside the search's reading of the rule.
+// Compares the judge with the rule as the search tests it.
 ghost use Prim.Native.Nat.{_≤_};
 use crate::counts::Tally;
-use crate::samples::numbered;
+use crate::samples::sample_request;
 use crate::search;
 use crate::search::is_plan;
 use judge::Verdict;
@@ -11,11 +11,11 @@ use settings::Settings;
 // The bytes that are tried as marks.
 const BYTES: [u8; 6] = [0, 1, 2, 3, 4, 255];
 
-// Every string of bytes for the over and under loads of a request.
+// Tries every string of bytes as marks for the loads of a request, each of which is over or under.
 pub fn compare(before: Tally, n: u16, number: usize) -> Tally
     requires { ⌜ n ≤ 8 ⌝ }
 {
-    let request = numbered(n, 1, number);
+    let request = sample_request(n, 1, number);
     let loads = request.lowest;
     let strings = strings_of(n);
     let mut tally = before;
@@ -52,7 +52,7 @@ fn compare_plan(
     tally.with(yes, agrees(verdict, yes, n, marks))
 }
 
-// Yes with the counts of the marks, or no.
+// Whether the verdict is yes with the counts of the marks, or no, as it should be.
 fn agrees(verdict: Verdict, yes: bool, n: usize, marks: [u8; 8]) -> bool
     requires { ⌜ n ≤ 8 ⌝ }
 {
@@ -65,7 +65,7 @@ fn agrees(verdict: Verdict, yes: bool, n: usize, marks: [u8; 8]) -> bool
     }
 }
 
-// The digits of a number in base 6, as bytes.
+// The bytes that the digits of a number in base 6 stand for.
 fn bytes_of(string: usize) -> [u8; 8] {
     [
         byte_of(string),

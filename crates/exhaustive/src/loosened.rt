@@ -1,18 +1,18 @@
-// Demand 3 for two requests, of which one is looser.
+// Tests demand 3 on two requests, of which one is looser.
 ghost use Prim.Native.Nat.{_≤_};
 use crate::answers::Given;
 use crate::answers::NO_PLAN;
 use crate::answers::PLANNED;
 use crate::answers::ask;
-use crate::answers::stays;
+use crate::answers::stays_planned;
 use crate::counts::Tally;
 use crate::loads::load;
 use crate::numbers::larger;
-use crate::numbers::less;
 use crate::numbers::next;
 use crate::numbers::pick;
+use crate::numbers::saturating_sub;
 use crate::samples::Request;
-use crate::samples::numbered;
+use crate::samples::sample_request;
 use rule::Shape;
 use settings::CountRange;
 use settings::Settings;
@@ -20,7 +20,7 @@ use settings::Settings;
 pub fn compare(tally: Tally, n: u16, number: usize) -> Tally
     requires { ⌜ n ≤ 8 ⌝ }
 {
-    let request = numbered(n, 2, number);
+    let request = sample_request(n, 2, number);
     let tighter = ask(request, n);
     let looser = ask(loosened(request, n, next(number)), n);
     tally.with(tighter.outcome.code == PLANNED, agrees(tighter, looser))
@@ -30,9 +30,11 @@ fn agrees(tighter: Given, looser: Given) -> bool {
     let before = tighter.outcome;
     let after = looser.outcome;
     if before.code == NO_PLAN {
-        return stays(before, after, 0);
+        return stays_planned(before, after, 0);
     }
-    stays(before, after, 0) & (after.covered <= before.covered) & lies_within(tighter, looser)
+    stays_planned(before, after, 0)
+        & (after.covered <= before.covered)
+        & lies_within(tighter, looser)
 }
 
 fn lies_within(tighter: Given, looser: Given) -> bool {
@@ -54,7 +56,7 @@ fn at_most(loads: [i32; 8], others: [i32; 8]) -> bool {
     true
 }
 
-// Wider ranges, len, h and maximums no smaller, minimums no larger; k and n stay.
+// A looser request: no range narrower, len, h and maximums no smaller, minimums no larger; k and n stay the same.
 fn loosened(request: Request, n: u16, seed: usize) -> Request {
     let lowest = request.lowest;
     let highest = request.highest;
@@ -68,7 +70,7 @@ fn loosened(request: Request, n: u16, seed: usize) -> Request {
     }
 }
 
-// Moves some of the loads, all of them up or all of them down.
+// Moves some of the loads, all of these up or all of these down.
 fn moved(loads: [i32; 8], threshold: usize, seed: usize, up: bool) -> [i32; 8] {
     let mut now = loads;
     let mut random = seed;
@@ -94,10 +96,10 @@ fn loosened_settings(settings: Settings, n: u16, seed: usize) -> Settings {
     }
 }
 
-// The h drawn is accepted with the len drawn, so that the larger h is accepted with the larger len.
+// The h picked is accepted with the len picked, so that the larger h is accepted with the larger len.
 fn loosened_shape(shape: Shape, n: u16, seed: usize) -> Shape {
     let len = pick(seed, n);
-    let h = pick(next(seed), less(len, 2));
+    let h = pick(next(seed), saturating_sub(len, 2));
     Shape {
         len: larger(shape.len, len),
         h: larger(shape.h, h),

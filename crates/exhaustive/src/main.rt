@@ -1,6 +1,6 @@
-// Compares the filter, the judge and the watch with an exhaustive search, and refusals with document 01's table, both
-// written for themselves; and what the filter hands back with demand 3. Each line has how many were compared, how many
-// of these were planned, said yes to or have a window, and how many differ.
+// Compares the filter, the judge and the watch with an exhaustive search, refusals with document 01's table, and what
+// the filter hands back with demand 3. The search and the table use no function of the planner. Each line of output has
+// how many were compared, how many of these were planned, judged yes or have a window, and how many differ.
 //
 // Requests: every string of up to 5 slots that are under only, over only or open, with every accepted len and h and
 // every pair of maximums; each with one threshold, one choice of loads and one pair of minimums. Longer requests are
@@ -8,10 +8,10 @@
 // Plans: every string of up to 4 slots that are under or over, with the same settings, and every string of the bytes 0
 // to 4 and 255 as marks.
 // Watches: every string of up to 8 slots that are under or over, with every accepted len and h.
-// Loosenings: one of each request, the longer ones too. Settlings: every one of every open slot, of the requests among
-// these whose window maximum is n.
-// Calls of the filter and the judge, and starts of a watch, at and around the limits of the table. Their lines have how
-// often the table gives each number, and how often none, as 0.
+// Loosenings: one of each request, the longer ones too. Settlings: every settling of every open slot, in those of these
+// requests whose window maximum is n.
+// Calls of the filter and the judge, and starts of a watch: at and around the limits of the table. Their lines have how
+// often the table gives each refusal's number; 0 stands for no refusal.
 use crate::calls::FILTER_CALLS;
 use crate::calls::JUDGE_CALLS;
 use crate::calls::STARTS;

@@ -1,4 +1,4 @@
-// Refusals by the filter, the judge and the start of a watch, beside a reading of document 01's table.
+// Compares refusals by the filter, the judge and the start of a watch with document 01's table, as table.rt has it.
 ghost use Prim.Native.Nat.{_≤_};
 use crate::answers::UNTOUCHED;
 use crate::answers::outcome_of;
@@ -35,10 +35,10 @@ struct Refused {
     unaltered: bool,
 }
 
-// The numbers whose counts are printed, of which 0 is no refusal.
+// The numbers whose counts are printed; 0 stands for no refusal.
 const NUMBERS: [u32; 8] = [21, 22, 23, 24, 25, 26, 31, 0];
 
-// Compares the calls with a number below end, and prints a line. Whether all agree.
+// Compares the calls whose number is below end, prints a line, and gives whether all agree.
 pub fn run(operation: Operation, end: u32) -> bool {
     let mut met: [u32; 32] = [0; 32];
     let mut differ = 0;

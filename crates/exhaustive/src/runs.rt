@@ -20,7 +20,7 @@ pub enum Kind {
     Settled,
 }
 
-// How many numbers there are for n slots: strings of three classes, times (n + 1)^4 for what else is asked.
+// How many numbers there are for n slots: strings of three classes, times (n + 1)^4 for len, h and both maximums.
 const OPEN: [u32; 9] = [
     0,
     3 * 16,
@@ -46,7 +46,7 @@ const FIXED: [u32; 9] = [
     256 * 6561,
 ];
 
-// Compares those of first slots to those of fewer than end, and prints a line. Whether all agree.
+// Compares at every number of slots from first to below end, prints a line, and gives whether all agree.
 pub fn run(kind: Kind, first: u16, end: u16) -> bool
     requires { ⌜ end ≤ 9 ⌝ }
 {
@@ -64,7 +64,7 @@ pub fn run(kind: Kind, first: u16, end: u16) -> bool
     tally.differ == 0
 }
 
-// Adds those of n slots: the numbers from 0 to below end, by steps.
+// Adds the comparisons at n slots: their numbers go from 0 to below end by steps.
 fn every(before: Tally, kind: Kind, n: u16, end: u32, step: usize) -> Tally
     requires { ⌜ (n ≤ 8) × (0 < step) × (step < 4294967296) ⌝ }
 {
@@ -86,7 +86,8 @@ fn numbers(kind: Kind, n: u16) -> u32
     }
 }
 
-// Of the open requests of more than 5 slots samples are taken, by steps that have no factor in common with the numbers.
+// Of the requests with open slots, those of more than 5 slots are only sampled. The step has no factor in common with
+// how many numbers there are.
 fn step(kind: Kind, n: u16) -> usize
     requires { ⌜ n ≤ 8 ⌝ }
     ensures { λ r. ⌜ (0 < r) × (r < 4294967296) ⌝ }
@@ -102,7 +103,7 @@ fn step(kind: Kind, n: u16) -> usize
     }
 }
 
-// The first few that differ are named, by slots and number.
+// Adds one comparison. The first few that differ are printed, each by its slots and its number.
 fn add(before: Tally, kind: Kind, n: u16, number: usize) -> Tally
     requires { ⌜ n ≤ 8 ⌝ }
 {

@@ -5,8 +5,8 @@ use crate::loads::load;
 use crate::loads::spread;
 use crate::loads::threshold;
 use crate::numbers::digit;
+use crate::numbers::higher_digits;
 use crate::numbers::next;
-use crate::numbers::others;
 use crate::numbers::pick;
 use rule::Shape;
 use settings::CountRange;
@@ -20,12 +20,12 @@ pub struct Request {
     pub highest: [i32; 8],
 }
 
-// The request of n slots with this number. Its digits are, from the lowest on: len, h, the window maximum and the
-// covered maximum, each up to n, and the class string, whose highest digit is most.
-pub fn numbered(n: u16, most: u16, number: usize) -> Request {
+// The request of n slots with this number. The number's digits are, from the lowest on: len, h, the window maximum and
+// the covered maximum, each up to n, and the class string, whose highest digit is most.
+pub fn sample_request(n: u16, most: u16, number: usize) -> Request {
     let seed = next(next(number));
-    let counts = others(others(number, n), n);
-    let classes = others(others(counts, n), n);
+    let counts = higher_digits(higher_digits(number, n), n);
+    let classes = higher_digits(higher_digits(counts, n), n);
     let threshold = threshold(classes, seed);
     let lowest = spread(threshold, classes, most, next(seed), false);
     let highest = spread(threshold, classes, most, next(seed), true);
@@ -34,7 +34,7 @@ pub fn numbered(n: u16, most: u16, number: usize) -> Request {
             k: load(threshold, AT),
             shape: shape(n, number),
             windows: up_to(digit(counts, n), next(seed / 2)),
-            covered: up_to(digit(others(counts, n), n), next(seed / 3)),
+            covered: up_to(digit(higher_digits(counts, n), n), next(seed / 3)),
         },
         threshold,
         lowest,
@@ -42,13 +42,13 @@ pub fn numbered(n: u16, most: u16, number: usize) -> Request {
     }
 }
 
-// The two lowest digits of a number.
+// len and h, which are the two lowest digits of a number.
 fn shape(n: u16, number: usize) -> Shape
     ensures { λ r. ⌜ r .h ≤ n ⌝ }
 {
     Shape {
         len: digit(number, n),
-        h: digit(others(number, n), n),
+        h: digit(higher_digits(number, n), n),
     }
 }
 
@@ -60,7 +60,7 @@ pub fn is_accepted(n: u16, number: usize) -> bool
     (shape.len > 0) & ((shape.h == 0) | (shape.h + 1 < shape.len))
 }
 
-// Half of the minimums are 0.
+// A count range with this maximum. In half of the cases its minimum is 0.
 fn up_to(most: u16, seed: usize) -> CountRange {
     if pick(seed, 1) == 0 {
         return CountRange { least: 0, most };

@@ -5,8 +5,8 @@ use crate::numbers::smaller;
 use rule::Shape;
 use settings::Settings;
 
-// What the plans found so far have: the least counts, each by itself, which are 8 before the first; and a bit for each
-// slot where loads at most k occur, and where loads above k do.
+// What the plans found so far have: the least counts, each by itself, which are 8 before the first plan; a bit for each
+// slot where loads at most k occur, and a bit for each slot where loads above k do.
 pub struct Found {
     pub planned: bool,
     pub windows: u16,
@@ -38,7 +38,7 @@ pub fn search(settings: Settings, n: usize, lowest: [i32; 8], highest: [i32; 8])
     found
 }
 
-// The digits of a number in base 4.
+// The digits of a number in base 4, as marks.
 fn marks_of(string: usize) -> [u8; 8] {
     [
         (string % 4) as u8,
@@ -170,23 +170,23 @@ fn is_window(shape: Shape, marks: [u8; 8], first: usize, end: usize) -> bool
 {
     (marks[end - 1] != 3)
         & (end - first <= shape.len as usize)
-        & (count(marks, first, end, 3) <= shape.h)
+        & (occurrences(marks, first, end, 3) <= shape.h)
 }
 
 pub fn windows(n: usize, marks: [u8; 8]) -> u16
     requires { ⌜ n ≤ 8 ⌝ }
 {
-    count(marks, 0, n, 1)
+    occurrences(marks, 0, n, 1)
 }
 
 pub fn covered(n: usize, marks: [u8; 8]) -> u16
     requires { ⌜ n ≤ 8 ⌝ }
 {
-    n as u16 - count(marks, 0, n, 0)
+    n as u16 - occurrences(marks, 0, n, 0)
 }
 
 // How many of the marks from first to below end are this one.
-pub fn count(marks: [u8; 8], first: usize, end: usize, mark: u8) -> u16
+pub fn occurrences(marks: [u8; 8], first: usize, end: usize, mark: u8) -> u16
     requires { ⌜ (first ≤ end) × (end ≤ 8) ⌝ }
     ensures { λ r. ⌜ r + first ≤ end ⌝ }
 {

@@ -1,20 +1,20 @@
-// Demand 3 for an open slot that is settled, with the window range 0 to n.
+// Tests demand 3 on an open slot that is settled, with the window range 0 to n.
 ghost use Prim.Native.Nat.{_≤_, _<_};
 use crate::answers::Outcome;
 use crate::answers::PLANNED;
 use crate::answers::ask;
-use crate::answers::stays;
+use crate::answers::stays_planned;
 use crate::counts::Tally;
 use crate::loads::ABOVE;
 use crate::loads::load;
 use crate::samples::Request;
-use crate::samples::numbered;
+use crate::samples::sample_request;
 
-// Every settling of every open slot, for the requests whose window maximum is n. Their window minimum becomes 0.
+// Tries every settling of every open slot, for the requests whose window maximum is n. Their window minimum becomes 0.
 pub fn compare(tally: Tally, n: u16, number: usize) -> Tally
     requires { ⌜ n ≤ 8 ⌝ }
 {
-    let mut request = numbered(n, 2, number);
+    let mut request = sample_request(n, 2, number);
     if request.settings.windows.most != n {
         return tally;
     }
@@ -22,7 +22,7 @@ pub fn compare(tally: Tally, n: u16, number: usize) -> Tally
     settle_each(tally, request, n)
 }
 
-// Each slot is settled under, and then over.
+// Each open slot is settled under, and then over.
 fn settle_each(before: Tally, request: Request, n: u16) -> Tally
     requires { ⌜ n ≤ 8 ⌝ }
 {
@@ -46,7 +46,10 @@ fn settle(tally: Tally, request: Request, n: u16, before: Outcome, i: usize) -> 
         return tally;
     }
     let given = ask(settled(request, n, slot, i % 2 == 1), n);
-    tally.with(before.code == PLANNED, stays(before, given.outcome, 1))
+    tally.with(
+        before.code == PLANNED,
+        stays_planned(before, given.outcome, 1),
+    )
 }
 
 fn is_open(request: Request, i: usize) -> bool
@@ -55,8 +58,8 @@ fn is_open(request: Request, i: usize) -> bool
     (request.lowest[i] <= request.settings.k) & (request.highest[i] > request.settings.k)
 }
 
-// Under: the highest load becomes the threshold. Over: the lowest becomes the next number, and the covered maximum one
-// more, or n if that is smaller.
+// Settled under, the slot's highest load becomes the threshold. Settled over, its lowest load becomes the next number,
+// and the covered maximum becomes one more, but at most n.
 fn settled(request: Request, n: u16, slot: usize, over: bool) -> Request
     requires { ⌜ slot < 8 ⌝ }
 {

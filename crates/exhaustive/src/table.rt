@@ -1,5 +1,5 @@
-// Document 01's table "Where each refusal is checked", read for itself: the places lengths, settings and slots. No
-// function of the planner is used here.
+// Document 01's table "Where each refusal is checked", for its places lengths, settings and slots. No function of the
+// planner is used here.
 ghost use Prim.Native.Nat.{_≤_};
 use crate::calls::crossed;
 use crate::calls::highest_length;

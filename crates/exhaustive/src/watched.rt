@@ -1,25 +1,25 @@
-// The watch beside the search: on fixed loads its count is the least number of windows that the search finds with both
-// count ranges 0 to n. The filter is compared with the search on these requests too.
+// Compares the watch with the search: on fixed loads its count is the least number of windows that the search
+// finds with both count ranges 0 to n. The filter is compared with the search on these requests too.
 ghost use Prim.Native.Nat.{_≤_};
 use crate::answers::ask;
 use crate::counts::Tally;
 use crate::filtered::agrees;
-use crate::samples::numbered;
+use crate::samples::sample_request;
 use crate::search::search;
 use refusals::Checked;
 use settings::Settings;
 use watch::Started;
 use watch::Watch;
 
-// A count of windows that no plan has.
+// Stands for a refusal: no plan has so many windows.
 const REFUSED: u32 = 4294967295;
 
 // Of the requests that differ in their maximums alone, the one with both at n is taken. Its minimums become 0, and its
-// lowest loads are the fixed ones.
+// lowest loads are the fixed loads.
 pub fn compare(tally: Tally, n: u16, number: usize) -> Tally
     requires { ⌜ n ≤ 8 ⌝ }
 {
-    let mut request = numbered(n, 1, number);
+    let mut request = sample_request(n, 1, number);
     if (request.settings.windows.most != n) | (request.settings.covered.most != n) {
         return tally;
     }

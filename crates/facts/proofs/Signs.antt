@@ -1,5 +1,5 @@
--- An i32 by its sign: what is cast to an unsigned number is not negative, and is its magnitude, or one less where it is the
--- complement of a negative one.
+-- An i32 by its sign, for a cast to an unsigned number. A number that is not negative is cast itself, and is its
+-- magnitude. Of a negative number the complement is cast, which is not negative and is the magnitude less 1.
 use Prim.Native.Nat.{_-_, _<_, _^_}
 use native.Mathlib.Omega.{arith}
 use mathlib.Core.Bool.{true, false, true≢false}
@@ -13,7 +13,9 @@ use mir.Syntax.{w32}
 use mir.Val.{SFits, ofZ, toZ}
 
 abbrev pub Negative : ℤ → Type 0
-Negative z = let m : ℤ = toZ w32 (4294967295 - ofZ w32 z) in T (nonNeg m) × (natAbs m < 2 ^ 31) × (z ≡ negsuc (natAbs m))
+Negative z =
+    let m : ℤ = toZ w32 (4294967295 - ofZ w32 z) in
+    T (nonNeg m) × (natAbs m < 2 ^ 31) × (z ≡ negsuc (natAbs m))
 
 abbrev pub NotNegative : ℤ → Type 0
 NotNegative z = let m : ℤ = toZ w32 (ofZ w32 z) in T (nonNeg m) × (natAbs m < 2 ^ 31) × (z ≡ pos (natAbs m))
@@ -21,10 +23,10 @@ NotNegative z = let m : ℤ = toZ w32 (ofZ w32 z) in T (nonNeg m) × (natAbs m <
 pub negative : (z : ℤ) → SFits w32 z → ltZ (toZ w32 (ofZ w32 z)) (pos 0) ≡ true → Negative z
 negative (pos n) f e = absurd (omega (arith, ltb-true n 0 (simp (toZ-ofZ, f) at e)))
 negative (negsuc n) f e =
-    let small : n < 2147483648 = f .sfits in
+    let bounded : n < 2147483648 = f .sfits in
     let flips : 4294967295 - ofZ w32 (negsuc n) ≡ n = omega arith in
-    rw (flips, toZ-pos w32 small) (tt, omega arith, refl)
+    rw (flips, toZ-pos w32 bounded) (tt, omega arith, refl)
 
 pub not-negative : (z : ℤ) → SFits w32 z → ltZ (toZ w32 (ofZ w32 z)) (pos 0) ≡ false → NotNegative z
-not-negative (pos n) f e = let small : n < 2147483648 = f .sfits in rw (toZ-ofZ f) (tt, omega arith, refl)
+not-negative (pos n) f e = let bounded : n < 2147483648 = f .sfits in rw (toZ-ofZ f) (tt, omega arith, refl)
 not-negative (negsuc n) f e = absurd (true≢false (simp (toZ-ofZ, f) at e))

@@ -1,1 +1,1 @@
-// Facts on tests, lists and signed numbers that the proofs of several crates share. No operation.
+// Facts about tests, lists and numbers that the proofs of several crates share. This crate has no operations.

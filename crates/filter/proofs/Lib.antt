@@ -1,4 +1,4 @@
-mod Answering
-mod Classing
-mod Cutting
-mod Drawing
+mod PlanAnswers
+mod ClassifyLoop
+mod NarrowLoop
+mod DrawLoop

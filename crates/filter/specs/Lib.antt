@@ -1,3 +1,3 @@
-pub mod Answers
-pub mod Drawing
-pub mod Parts
+pub mod AnswerMeaning
+pub mod DrawState
+pub mod PartMeaning

@@ -1,15 +1,16 @@
-// The filter, as document 01 calls it: cuts load ranges to what some plan needs, and draws a plan. What it promises is in the
-// crate requests: specs/Request.antt has the words of a request, specs/Promise.antt what comes back.
+// The filter, in document 01's term: it cuts load ranges to the loads that occur in some plan, and
+// draws a plan. What it promises is in the crate requests: specs/Request.antt has the words of a
+// request, specs/Promise.antt what comes back.
 ghost use mathlib.Core.Path.{_≡_};
-ghost use Rattle.filter.specs.Answers.{handed};
+ghost use Rattle.filter.specs.AnswerMeaning.{outcomeOf};
 ghost use Rattle.requests.specs.Promise.{Keeps};
-ghost use Rattle.requests.specs.Request.{asked, WellFormed};
+ghost use Rattle.requests.specs.Request.{requestOf, WellFormed};
 ghost use Rattle.requests.specs.Solution.{raised};
 use crate::classes::classify;
 use crate::draw::draw;
 use crate::narrow::narrow;
 use checks::check_request;
-use least::low;
+use least::least_counts;
 use refusals::Checked;
 use refusals::Refusal;
 use requests::PlanCounts;
@@ -28,8 +29,8 @@ pub enum Answer {
     Planned(PlanCounts),
 }
 
-// Gives the first refusal that applies, or "no plan", or both count ranges with their minimums raised. Only in the last case it
-// writes: the ranges lose the loads that occur in no plan, and the marks become a plan.
+// Gives the first refusal that applies, or "no plan", or both count ranges with their minimums raised. Only in
+// the last case does it write: the ranges lose the loads that occur in no plan, and the marks become a plan.
 pub fn filter(
     settings: Settings,
     lowest: &mut [i32],
@@ -37,8 +38,8 @@ pub fn filter(
     marks: &mut [u8],
 ) -> Answer
     ensures { λ r. ⌜ Keeps
-        (asked settings (now (lowest .entry)) (now (highest .entry)) (now (marks .entry)))
-        (handed r (now (lowest .exit)) (now (highest .exit)) (now (marks .exit))) ⌝ }
+        (requestOf settings (now (lowest .entry)) (now (highest .entry)) (now (marks .entry)))
+        (outcomeOf r (now (lowest .exit)) (now (highest .exit)) (now (marks .exit))) ⌝ }
 {
     let different = differ(lowest.len(), marks.len());
     let checked = check_request(settings, lowest, highest, different);
@@ -50,14 +51,14 @@ pub fn filter(
 
 // What the filter answers and writes for a request that is not refused.
 fn plan(settings: Settings, lowest: &mut [i32], highest: &mut [i32], marks: &mut [u8]) -> Answer
-    requires { ⌜ WellFormed (asked settings (now lowest) (now highest) (now marks)) ⌝ }
+    requires { ⌜ WellFormed (requestOf settings (now lowest) (now highest) (now marks)) ⌝ }
     ensures { λ r. ⌜ Keeps
-        (asked settings (now (lowest .entry)) (now (highest .entry)) (now (marks .entry)))
-        (handed r (now (lowest .exit)) (now (highest .exit)) (now (marks .exit))) ⌝ }
+        (requestOf settings (now (lowest .entry)) (now (highest .entry)) (now (marks .entry)))
+        (outcomeOf r (now (lowest .exit)) (now (highest .exit)) (now (marks .exit))) ⌝ }
 {
     let n = lowest.len();
     let codes = classify(settings.k, lowest, highest);
-    let least = low(settings, &codes[..n]);
+    let least = least_counts(settings, &codes[..n]);
     if least.covered > settings.covered.most {
         return Answer::NoPlan;
     }

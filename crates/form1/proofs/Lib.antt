@@ -1,7 +1,7 @@
-pub mod Drawing
-pub mod Each
-mod Numbers
+pub mod ReadBack
+pub mod Tabulate
+mod NumberAt
 pub mod Opening
-pub mod Passing
-pub mod Redrawing
+pub mod WholeFile
+pub mod OnlyEncoded
 pub mod Rows

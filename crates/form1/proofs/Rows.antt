@@ -1,4 +1,4 @@
--- Which answer the rows of a file and one row more lead to.
+-- Which answer follows from the refusals of a file and from the last row of `refusal`.
 use Prim.Native.Nat.{ℕ}
 use mathlib.Core.Bool.{Bool, true, false}
 use mathlib.Core.List.{List}

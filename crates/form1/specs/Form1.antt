@@ -12,27 +12,27 @@ use Rattle.refusals.specs.declared.Refusal.{Refusal}
 use Rattle.refusals.specs.declared.Refusal.the-variants.{Size, End, Form, Slots, Distance, Records}
 use Rattle.settings.specs.declared.Settings.{Settings}
 
--- numbers are little-endian ..
-unfoldable pub little : List ℕ → ℕ
-little [] = 0
-little (b ∷ bs) = b + 256 * little bs
+-- numbers are little-endian
+unfoldable pub littleEndian : List ℕ → ℕ
+littleEndian [] = 0
+littleEndian (b ∷ bs) = b + 256 * littleEndian bs
 
--- .. signed ones, which all have 32 bits, in two's complement
+-- every signed number has 32 bits, in two's complement
 unfoldable pub signed : ℕ → ℤ
 signed n = cond (ltb n 2147483648) (pos n) (pos n -ℤ pos 4294967296)
 
--- the number of so many bytes that stands at a place
+-- the number that `size` bytes hold, from a place on
 unfoldable pub numberAt : (size place : ℕ) → List ℕ → ℕ
-numberAt size place file = little (take size (drop place file))
+numberAt size place file = littleEndian (take size (drop place file))
 
 unfoldable pub signedAt : (place : ℕ) → List ℕ → ℤ
 signedAt place file = signed (numberAt 4 place file)
 
--- the last 16 bytes are the trailer
+-- the place where the trailer, the last 16 bytes, begins
 abbrev pub trailer : List ℕ → ℕ
 trailer file = length file - 16
 
--- its fields, one behind the other
+-- the trailer's fields, one after the other
 unfoldable pub distance : List ℕ → ℕ
 distance file = numberAt 2 (trailer file) file
 
@@ -51,8 +51,8 @@ settings file =
 unfoldable pub form : List ℕ → ℕ
 form file = numberAt 1 (trailer file + 13) file
 
--- before it stand n records of 8 bytes, lowest and highest; the distance goes back from its start to the first of them. What is
--- before that is a free note
+-- Before the trailer stand n records of 8 bytes, each the lowest and the highest load of a slot. The distance counts
+-- back from the trailer's start to the first record. What comes before the records is a free note.
 unfoldable pub rangeOf : (slot : ℕ) → List ℕ → Range
 rangeOf slot file =
     record {
@@ -60,10 +60,10 @@ rangeOf slot file =
       highest = signedAt (trailer file - distance file + 8 * slot + 4) file;
     }
 
--- what the slots from 0 up to n give, in their order
-unfoldable pub each : {A : Type 0} (n : ℕ) → (ℕ → A) → List A
-each zero f = []
-each (suc n) f = each n f ++ (f n ∷ [])
+-- what f gives for each number below n, in order
+unfoldable pub tabulate : {A : Type 0} (n : ℕ) → (ℕ → A) → List A
+tabulate zero f = []
+tabulate (suc n) f = tabulate n f ++ (f n ∷ [])
 
 -- 11: fewer than 16 or more than 4,096 bytes
 unfoldable pub wrongSize : List ℕ → Bool
@@ -89,7 +89,8 @@ wrongDistance file = not (eqb (distance file) (8 * slots file))
 unfoldable pub recordsMissing : List ℕ → Bool
 recordsMissing file = ltb (length file) (16 + 8 * slots file)
 
--- the file place ("Where each refusal is checked"), as far as the reader and the look-up share it: 11 to 16
+-- the refusals of the file place (document 01, "Where each refusal is checked") that the reader and the look-up
+-- share: 11 to 16
 unfoldable pub fileRefusal : List ℕ → Option Refusal
 fileRefusal file =
     first
@@ -101,6 +102,6 @@ fileRefusal file =
     ∷ row Records (recordsMissing file)
     ∷ [])
 
--- one row more: 17 for the reader, 19 for the look-up
+-- the same with one row more at the end: 17 for the reader, 19 for the look-up
 abbrev pub refusal : (last : Option Refusal) → List ℕ → Option Refusal
 refusal last file = first (fileRefusal file ∷ last ∷ [])

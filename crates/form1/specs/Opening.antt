@@ -1,5 +1,5 @@
--- What is said of a file before its records are read, and of the record at a place (document 01, "Form 1, on the card" and "Where
--- each refusal is checked").
+-- What `open` gives for a file, before its records are read, and what `range_at` gives for a place (document 01,
+-- "Form 1, on the card" and "Where each refusal is checked").
 use Prim.Native.Nat.{ℕ, _+_, _-_}
 use mathlib.Core.Bool.{cond}
 use mathlib.Core.List.{List}
@@ -14,19 +14,21 @@ use Rattle.form1.specs.declared.Contents.{Contents}
 use Rattle.form1.specs.declared.Opened.{Opened}
 use Rattle.form1.specs.declared.Opened.the-variants.{Refused, Whole}
 
-abbrev pub said : Opened → Answer Contents
-said (Refused r) = refuses r
-said (Whole contents) = gives contents
+abbrev pub meaning : Opened → Answer Contents
+meaning (Refused r) = refuses r
+meaning (Whole contents) = gives contents
 
--- what the trailer says; the distance goes back from its start to the first record
+-- what the trailer says; the distance counts back from the trailer's start to the first record
 abbrev pub contents : List ℕ → Contents
 contents file = record { settings = settings file; n = slots file; start = trailer file - distance file }
 
--- the first of 11 to 16 that applies, or that; the settings are not judged
+-- the first of the refusals 11 to 16 that applies, or else these contents; the settings are not checked here
 unfoldable pub opening : List ℕ → Answer Contents
 opening file = answer (fileRefusal file) (contents file)
 
--- the record at a place, lowest and highest; 0 and 0 where the file does not have its 8 bytes, which document 01 leaves open
+-- the record at a place, its lowest and highest load; 0 and 0 where the file has no 8 bytes there, which document 01
+-- leaves open
 unfoldable pub rangeAt : (place : ℕ) → List ℕ → Range
 rangeAt place file =
-    cond (leb (place + 8) (length file)) (range (signedAt place file) (signedAt (place + 4) file)) (range (pos 0) (pos 0))
+    cond (leb (place + 8) (length file)) (range (signedAt place file) (signedAt (place + 4) file))
+    (range (pos 0) (pos 0))

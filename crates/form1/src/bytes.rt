@@ -1,4 +1,4 @@
-// Numbers at places of a file, the least byte first.
+// Numbers at places of a file, the least significant byte first.
 ghost use mathlib.Core.Path.{_≡_};
 ghost use Prim.Native.Nat.{_+_, _≤_, _<_};
 ghost use lib.ListN.{length};
@@ -11,7 +11,7 @@ pub(crate) fn pair(file: &[u8], place: usize) -> u32
     wide(file[place]) + 256 * wide(file[place + 1])
 }
 
-// A byte is below 256, for the sums that rest on it.
+// A byte as a wider number. That it is below 256 bounds the sum in `pair`.
 fn wide(byte: u8) -> u32
     ensures { λ r. ⌜ (r ≡ byte) × (r < 256) ⌝ }
 {
@@ -25,7 +25,7 @@ fn word(file: &[u8], place: usize) -> u32
     pair(file, place) + 65536 * pair(file, place + 2)
 }
 
-// A cast has to keep its number: from 2,147,483,648 on the complement is cast.
+// A cast has to keep its number, so from 2,147,483,648 on the complement is cast, and then complemented back.
 fn signed(n: u32) -> i32
     ensures { λ r. ⌜ r ≡ Form1·signed n ⌝ }
 {

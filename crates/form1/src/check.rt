@@ -1,8 +1,8 @@
-// The refusals of the file place.
+// The refusals of the file place that the reader and the look-up share: 11 to 16.
 ghost use mathlib.Core.Path.{_≡_};
 ghost use Prim.Native.Nat.{_≤_};
 ghost use lib.ListN.{length};
-ghost use Rattle.refusals.specs.Answer.{checked};
+ghost use Rattle.refusals.specs.Answer.{meaning};
 ghost use Rattle.form1.specs.Form1.{fileRefusal};
 ghost use Rattle.form1.specs.Form1.{wrongSize, wrongEnd, wrongForm, wrongSlots, wrongDistance, recordsMissing};
 use crate::RECORD;
@@ -13,14 +13,14 @@ use crate::fields::slots;
 use refusals::Checked;
 use refusals::Refusal;
 
-// The most bytes and the most slots of form 1.
+// The most bytes and the most slots that form 1 allows.
 const MOST_BYTES: usize = 4096;
 
 const MOST_SLOTS: usize = 64;
 
-// Whether a file passes 11 to 16, or the first that applies.
+// Gives the first of the refusals 11 to 16 that applies, or says that the file passes.
 pub(crate) fn check(file: &[u8]) -> Checked
-    ensures { λ r. ⌜ checked r ≡ fileRefusal (now (file .entry)) ⌝ }
+    ensures { λ r. ⌜ meaning r ≡ fileRefusal (now (file .entry)) ⌝ }
 {
     if wrong_size(file) {
         return Checked::Refused(Refusal::Size);
@@ -43,7 +43,7 @@ pub(crate) fn check(file: &[u8]) -> Checked
     Checked::Passed
 }
 
-// The tests of the rows, from 11 on.
+// A test for each of these refusals, from 11 on.
 fn wrong_size(file: &[u8]) -> bool
     ensures { λ r. ⌜ r ≡ wrongSize (now (file .entry)) ⌝ }
 {

@@ -10,7 +10,7 @@ use rule::Shape;
 use settings::CountRange;
 use settings::Settings;
 
-// The bytes of the trailer.
+// How many bytes the trailer has.
 pub(crate) const TRAILER: usize = 16;
 
 // The byte at a place of the trailer.
@@ -59,7 +59,7 @@ pub(crate) fn settings(file: &[u8]) -> Settings
     }
 }
 
-// The least and the most of a count, from a place of the trailer on.
+// A count range: its least at a place of the trailer, its most at the next place.
 fn counts(file: &[u8], place: usize) -> CountRange
     requires { ⌜ (16 ≤ length (now file)) × (place + 1 < 16) ⌝ }
     ensures { λ r. ⌜ r ≡ record {

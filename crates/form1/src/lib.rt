@@ -1,7 +1,7 @@
-// Form 1, the file on the card: whether a file has it, what its trailer says, and the record at a place. The format is
-// specs/Form1.antt; what comes back is specs/Opening.antt.
+// Form 1, the file on the card: whether a file has this form, what its trailer says, and the record at a place.
+// specs/Form1.antt defines the form, specs/Opening.antt what comes back.
 ghost use mathlib.Core.Path.{_≡_};
-ghost use Rattle.form1.specs.Opening.{said, opening, rangeAt};
+ghost use Rattle.form1.specs.Opening.{meaning, opening, rangeAt};
 use crate::bytes::signed_at;
 use crate::check::check;
 use crate::fields::settings;
@@ -16,7 +16,7 @@ mod bytes;
 mod check;
 mod fields;
 
-// The bytes of a record.
+// How many bytes a record has.
 pub const RECORD: usize = 8;
 
 // What the trailer says; start is the place of the first record.
@@ -31,9 +31,9 @@ pub enum Opened {
     Whole(Contents),
 }
 
-// Gives the first of 11 to 16 that applies, or what the trailer says.
+// Gives the first of the refusals 11 to 16 that applies, or what the trailer says.
 pub fn open(file: &[u8]) -> Opened
-    ensures { λ r. ⌜ said r ≡ opening (now (file .entry)) ⌝ }
+    ensures { λ r. ⌜ meaning r ≡ opening (now (file .entry)) ⌝ }
 {
     let checked = check(file);
     if let Checked::Refused(refusal) = checked {

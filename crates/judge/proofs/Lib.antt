@@ -1,4 +1,4 @@
-pub mod Allowing
-pub mod Judging
-pub mod Scan
-pub mod Steps
+pub mod Allowed
+pub mod JudgeAnswers
+pub mod LegalLoop
+pub mod ScanStep

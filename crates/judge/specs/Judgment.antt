@@ -15,22 +15,23 @@ use Rattle.refusals.specs.Answer.{Answer, refuses, gives, answer}
 use Rattle.settings.specs.Refusals.{differs, refusal}
 
 -- yes or no, with the window and covered counts
-pub data Said : Type 0 where
-  says : (yes : Bool) (windows covered : ℕ) → Said
+pub data YesOrNo : Type 0 where
+  says : (yes : Bool) (windows covered : ℕ) → YesOrNo
 
 abbrev pub Judgment : Type 0
-Judgment = Answer Said
+Judgment = Answer YesOrNo
 
--- what a verdict says: no has both counts 0
-abbrev pub told : Verdict → Judgment
-told (Yes w c) = gives (says true w c)
-told No = gives (says false 0 0)
-told (Refused r) = refuses r
+-- what a verdict means in document 01's words: no has both counts 0
+abbrev pub meaning : Verdict → Judgment
+meaning (Yes w c) = gives (says true w c)
+meaning No = gives (says false 0 0)
+meaning (Refused r) = refuses r
 
 -- the marks are legal for these loads and both counts are at most their maximums; the minimums take no part
 unfoldable pub allowed : Settings → List ℤ → List ℕ → Bool
 allowed s loads marks =
-    legal (s .k) (s .shape) loads marks && leb (windows marks) (s .windows .most) && leb (covered marks) (s .covered .most)
+    legal (s .k) (s .shape) loads marks && leb (windows marks) (s .windows .most)
+    && leb (covered marks) (s .covered .most)
 
 -- which refusal the judge gives, if any
 abbrev pub judgeRefusal : Settings → List ℤ → List ℕ → Option Refusal

@@ -1,2 +1,2 @@
 pub mod Judgment
-pub mod Steps
+pub mod ScanStep

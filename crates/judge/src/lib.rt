@@ -1,7 +1,7 @@
-// The judge, as document 01 calls it: whether a finished plan is allowed. What it says is specs/Judgment.antt.
+// The judge, as document 01 calls it: whether a finished plan is allowed. What it says is in specs/Judgment.antt.
 ghost use mathlib.Core.Path.{_≡_};
-ghost use Rattle.judge.specs.Judgment.{judgment, told};
-use crate::marks::count;
+ghost use Rattle.judge.specs.Judgment.{judgment, meaning};
+use crate::marks::count_marks;
 use crate::marks::legal;
 use refusals::Checked;
 use refusals::Refusal;
@@ -18,9 +18,10 @@ pub enum Verdict {
     Refused(Refusal),
 }
 
-// Says yes exactly when the marks are legal for the loads and keep both maximums, with their window and covered counts.
+// Says yes, with the window and covered counts, exactly when the marks are legal for the loads and
+// neither count is above its maximum.
 pub fn judge(settings: Settings, loads: &[i32], marks: &[u8]) -> Verdict
-    ensures { λ r. ⌜ told r ≡ judgment settings (now (loads .entry)) (now (marks .entry)) ⌝ }
+    ensures { λ r. ⌜ meaning r ≡ judgment settings (now (loads .entry)) (now (marks .entry)) ⌝ }
 {
     let different = differ(loads.len(), marks.len());
     let checked = check(settings, loads.len(), different);
@@ -30,7 +31,7 @@ pub fn judge(settings: Settings, loads: &[i32], marks: &[u8]) -> Verdict
     if !legal(settings, loads, marks) {
         return Verdict::No;
     }
-    let seen = count(marks);
+    let seen = count_marks(marks);
     if seen.windows > settings.windows.most {
         return Verdict::No;
     }

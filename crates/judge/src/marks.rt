@@ -1,19 +1,19 @@
-// Marks read from the left: whether they are legal for loads, and how much they cover.
+// Marks scanned from the left: whether they are legal for loads, and how many windows and covered slots they have.
 ghost use mathlib.Core.Path.{_≡_};
 ghost use Prim.Native.Nat.{_≤_, _<_};
 ghost use lib.ListN.{length};
 ghost use Rattle.rule.specs.Rule.{follows, goesWith, legal as Rule·legal, windows, covered};
 ghost use Rattle.settings.specs.Refusals.{limit};
-ghost use Rattle.rule.specs.Reading.{advanced};
-ghost use Rattle.judge.specs.Steps.{stepOf, countedOf};
-use rule::Reading;
+ghost use Rattle.rule.specs.ScanState.{advanced};
+ghost use Rattle.judge.specs.ScanStep.{stepOf, withMark};
+use rule::ScanState;
 use rule::Shape;
 use rule::over;
 use settings::Settings;
 
-// One slot on, or the slot's mark breaks the rule.
+// What one slot of a scan gives: the state after it, or that its mark breaks the rule.
 pub enum Step {
-    On(Reading),
+    On(ScanState),
     Broken,
 }
 
@@ -23,7 +23,7 @@ pub struct Counts {
     pub covered: u16,
 }
 
-// The tests of one slot.
+// The tests of one slot's mark, against its load and against the mark before it.
 fn goes_with(over: bool, mark: u8) -> bool
     ensures { λ r. ⌜ r ≡ goesWith over mark ⌝ }
 {
@@ -57,33 +57,33 @@ fn may_follow(previous: u8, mark: u8) -> bool
     }
 }
 
-// The reading behind a slot with this mark: a window's counts start where it opens.
-fn advance(at: Reading, mark: u8) -> Reading
+// The scan state after a slot with this mark: the counts of a window start where it opens.
+fn advance(at: ScanState, mark: u8) -> ScanState
     requires { ⌜ (at .slots < limit) × (at .bridges < limit) ⌝ }
     ensures { λ r. ⌜ r ≡ advanced at mark ⌝ }
 {
     match mark {
-        0 => Reading {
+        0 => ScanState {
             mark,
             slots: 0,
             bridges: 0,
         },
-        1 => Reading {
+        1 => ScanState {
             mark,
             slots: 1,
             bridges: 0,
         },
-        2 => Reading {
+        2 => ScanState {
             mark,
             slots: at.slots + 1,
             bridges: at.bridges,
         },
-        3 => Reading {
+        3 => ScanState {
             mark,
             slots: at.slots + 1,
             bridges: at.bridges + 1,
         },
-        4..=255 => Reading {
+        4..=255 => ScanState {
             mark,
             slots: 0,
             bridges: 0,
@@ -91,8 +91,8 @@ fn advance(at: Reading, mark: u8) -> Reading
     }
 }
 
-// Reads one more slot, with its mark and whether its load is over.
-fn read(shape: Shape, at: Reading, over: bool, mark: u8) -> Step
+// Scans one more slot, given its mark and whether its load is over.
+fn scan_slot(shape: Shape, at: ScanState, over: bool, mark: u8) -> Step
     requires { ⌜ (at .slots < limit) × (at .bridges < limit) ⌝ }
     ensures { λ r. ⌜ r ≡ stepOf shape at over mark ⌝ }
 {
@@ -112,12 +112,12 @@ fn read(shape: Shape, at: Reading, over: bool, mark: u8) -> Step
     Step::On(next)
 }
 
-// Reads the plan from slot 0 on, and stops where a mark breaks the rule.
+// Scans the plan from slot 0 on, and stops where a mark breaks the rule.
 pub(crate) fn legal(settings: Settings, loads: &[i32], marks: &[u8]) -> bool
     requires { ⌜ (length (now loads) ≡ length (now marks)) × (length (now marks) ≤ limit) ⌝ }
     ensures { λ r. ⌜ r ≡ Rule·legal (settings .k) (settings .shape) (now (loads .entry)) (now (marks .entry)) ⌝ }
 {
-    let mut at = Reading {
+    let mut at = ScanState {
         mark: 0,
         slots: 0,
         bridges: 0,
@@ -125,7 +125,7 @@ pub(crate) fn legal(settings: Settings, loads: &[i32], marks: &[u8]) -> bool
     let mut i = 0;
     while i < marks.len() {
         let is_over = over(settings.k, loads[i]);
-        let Step::On(next) = read(settings.shape, at, is_over, marks[i]) else {
+        let Step::On(next) = scan_slot(settings.shape, at, is_over, marks[i]) else {
             return false;
         };
         at = next;
@@ -134,7 +134,7 @@ pub(crate) fn legal(settings: Settings, loads: &[i32], marks: &[u8]) -> bool
     at.mark != 3
 }
 
-pub(crate) fn count(marks: &[u8]) -> Counts
+pub(crate) fn count_marks(marks: &[u8]) -> Counts
     requires { ⌜ length (now marks) ≤ limit ⌝ }
     ensures { λ r. ⌜ (r .windows ≡ windows (now (marks .entry))) × (r .covered ≡ covered (now (marks .entry))) ⌝ }
 {
@@ -144,15 +144,15 @@ pub(crate) fn count(marks: &[u8]) -> Counts
     };
     let mut i = 0;
     while i < marks.len() {
-        seen = counted(seen, marks[i]);
+        seen = with_mark(seen, marks[i]);
         i += 1;
     }
     seen
 }
 
-fn counted(seen: Counts, mark: u8) -> Counts
+fn with_mark(seen: Counts, mark: u8) -> Counts
     requires { ⌜ (seen .windows < limit) × (seen .covered < limit) ⌝ }
-    ensures { λ r. ⌜ r ≡ countedOf seen mark ⌝ }
+    ensures { λ r. ⌜ r ≡ withMark seen mark ⌝ }
 {
     match mark {
         0 => seen,

@@ -1,3 +1,3 @@
-pub mod Filling
-mod Lending
-pub mod Scanning
+pub mod RowLoops
+mod FirstSlots
+pub mod InsideLoop

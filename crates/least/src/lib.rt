@@ -1,59 +1,60 @@
-// Least counts of slots, given by what each can be: rows of the least covered counts of the slots from each one on, one
-// row for each number of windows. What they are is `best` (crates/requests/specs/Best.antt).
+// Least counts of slots, where each slot is given by what it can be. There is one row for each
+// number of windows: at each slot's place it has the least covered count of the slots from there
+// on. What these counts are is `best` (crates/requests/specs/Best.antt).
 ghost use mathlib.Core.Bool.{cond};
 ghost use mathlib.Core.Path.{_≡_};
 ghost use lib.Dec.{leb};
 ghost use Prim.Native.Nat.{ℕ, _+_, _-_, _≤_, _<_, min};
 ghost use lib.ListN.{length, take};
 ghost use Rattle.settings.specs.Refusals.{limit, places};
-ghost use Rattle.requests.specs.Best.{spend};
-ghost use Rattle.rule.specs.Codes.{coded, decoded};
-ghost use Rattle.least.specs.Rows.{Row, Behind, leastFrom, onwardFrom, firstBelow, wentOn};
-ghost use Rattle.requests.specs.Solution.{sentinel, cheapest, sparsest};
+ghost use Rattle.requests.specs.Best.{usingOne};
+ghost use Rattle.rule.specs.ClassCodes.{decode, decodeAll};
+ghost use Rattle.least.specs.Rows.{Row, RowAfter, leastFrom, insideFrom, firstBelow, extended};
+ghost use Rattle.requests.specs.Solution.{sentinel, leastCoveredCount, leastWindowCount};
 use rule::OVER;
 use rule::UNDER;
 use settings::LIMIT;
 use settings::PLACES;
 use settings::Settings;
 
-// The covered count that stands for "no plan". Counts are capped there, so that they are the least only below it.
+// The covered count that stands for "no plan". Counts are capped there, so that only a smaller count is the least.
 pub const NO_PLAN: u16 = 65535;
 
-// A window that goes on: the slots and bridges left to it, the slots that it has covered so far, and the least covered
-// count found up to here, with what comes behind it.
-pub struct Going {
+// A window under way: the slots and bridges left to it, the slots that it has covered so far, and
+// the least covered count found up to here, of the window and what comes after it.
+pub struct UnderWay {
     pub slots: u16,
     pub bridges: u16,
     pub covered: u16,
     pub least: u16,
 }
 
-// What comes after a window, where at most w windows are left with it. At each slot's place `behind` has the least
-// covered count of the slots from there on, with at most w - 1 windows, or NO_PLAN; at every place past the last slot
-// it has 0. Where w is 0 it has NO_PLAN at all places. `first` is the first window count below w with which the covered
-// maximum is kept, or w; a maximum of NO_PLAN is always kept.
+// What comes after a window, where at most w windows are left, this one included. At each slot's place
+// `after` has the least covered count of the slots from there on, with at most w - 1 windows, or NO_PLAN; at
+// every place past the last slot it has 0. Where w is 0 it has NO_PLAN at all places. `first` is the first
+// window count below w with which the covered maximum is kept, or w; a maximum of NO_PLAN is always kept.
 pub struct Filled {
-    pub behind: [u16; PLACES],
+    pub after: [u16; PLACES],
     pub first: u16,
 }
 
-// Two counts, each by itself (`LeastCounts` in crates/requests/specs/Solution.antt). `covered` is the least covered
-// count within the window maximum, or NO_PLAN where no plan covers fewer slots than that. `windows` is the least window
-// count within both maximums; where there is no plan it is the window maximum, and where the covered maximum is NO_PLAN
-// it is 0.
-pub struct Least {
+// Two least counts, each taken by itself (`CountsAreLeast` in crates/requests/specs/Solution.antt).
+// `covered` is the least covered count within the window maximum, or NO_PLAN where no plan covers
+// fewer slots than that. `windows` is the least window count within both maximums; where there is
+// no plan it is the window maximum, and where the covered maximum is NO_PLAN it is 0.
+pub struct LeastCounts {
     pub windows: u16,
     pub covered: u16,
 }
 
-// Both covered counts together, or "no plan".
-fn together(covered: u16, behind: u16) -> u16
-    ensures { λ r. ⌜ r ≡ min sentinel (covered + behind) ⌝ }
+// The sum of both covered counts, or NO_PLAN where it is not smaller than that.
+fn saturating_add(covered: u16, after: u16) -> u16
+    ensures { λ r. ⌜ r ≡ min sentinel (covered + after) ⌝ }
 {
-    if behind >= NO_PLAN - covered {
+    if after >= NO_PLAN - covered {
         return NO_PLAN;
     }
-    covered + behind
+    covered + after
 }
 
 fn smaller(a: u16, b: u16) -> u16
@@ -65,39 +66,40 @@ fn smaller(a: u16, b: u16) -> u16
     a
 }
 
-// One slot on. A slot that can be over is taken as over, and the window may close behind it; any other is a bridge, and
-// without one left the window goes no further.
-fn go_on(going: Going, class: u8, behind: u16) -> Going
-    requires { ⌜ (1 ≤ going .slots) × (going .covered < sentinel) ⌝ }
-    ensures { λ r. ⌜ r ≡ wentOn going (coded class) behind ⌝ }
+// The window extended by the next slot, where `after` is the least covered count of what comes
+// after that slot. A slot that can be over is taken as over, and the window may close after it; any
+// other is a bridge, and where no bridge is left the window continues no further.
+fn extend(window: UnderWay, class: u8, after: u16) -> UnderWay
+    requires { ⌜ (1 ≤ window .slots) × (window .covered < sentinel) ⌝ }
+    ensures { λ r. ⌜ r ≡ extended window (decode class) after ⌝ }
 {
-    let covered = going.covered + 1;
+    let covered = window.covered + 1;
     if class != UNDER {
-        return Going {
-            slots: going.slots - 1,
-            bridges: going.bridges,
+        return UnderWay {
+            slots: window.slots - 1,
+            bridges: window.bridges,
             covered,
-            least: smaller(going.least, together(covered, behind)),
+            least: smaller(window.least, saturating_add(covered, after)),
         };
     }
-    if going.bridges == 0 {
-        return Going {
+    if window.bridges == 0 {
+        return UnderWay {
             slots: 0,
             bridges: 0,
-            covered: going.covered,
-            least: going.least,
+            covered: window.covered,
+            least: window.least,
         };
     }
-    Going {
-        slots: going.slots - 1,
-        bridges: going.bridges - 1,
+    UnderWay {
+        slots: window.slots - 1,
+        bridges: window.bridges - 1,
         covered,
-        least: going.least,
+        least: window.least,
     }
 }
 
-// The slots of a window behind its first.
-fn room(len: u16) -> u16
+// The most slots that a window has after its first.
+fn later_slots(len: u16) -> u16
     ensures { λ r. ⌜ r ≡ len - 1 ⌝ }
 {
     if len == 0 {
@@ -106,51 +108,52 @@ fn room(len: u16) -> u16
     len - 1
 }
 
-// The least covered count of the slots from one on, in a window that has its first slot right before and goes on.
-fn onward(settings: Settings, classes: &[u8], behind: &[u16; PLACES], from: usize) -> u16
-    requires { ⌜ (length (now classes) ≤ limit) × (from ≤ length (now classes)) × (length (now behind) ≡ places) ⌝ }
-    ensures { λ r. ⌜ ((w : ℕ) → Behind settings (decoded (now (classes .entry))) w (now (behind .entry)) →
-        r ≡ spend sentinel w (onwardFrom settings (decoded (now (classes .entry))) from)) ⌝ }
+// The least covered count of the slots from `from` on, in a window whose first slot is right before
+// them and which continues.
+fn least_inside(settings: Settings, classes: &[u8], after: &[u16; PLACES], from: usize) -> u16
+    requires { ⌜ (length (now classes) ≤ limit) × (from ≤ length (now classes)) × (length (now after) ≡ places) ⌝ }
+    ensures { λ r. ⌜ ((w : ℕ) → RowAfter settings (decodeAll (now (classes .entry))) w (now (after .entry)) →
+        r ≡ usingOne sentinel w (insideFrom settings (decodeAll (now (classes .entry))) from)) ⌝ }
 {
-    let mut going = Going {
-        slots: room(settings.shape.len),
+    let mut window = UnderWay {
+        slots: later_slots(settings.shape.len),
         bridges: settings.shape.h,
         covered: 0,
         least: NO_PLAN,
     };
     let mut i = from;
-    while i < classes.len() && going.slots > 0 {
-        going = go_on(going, classes[i], behind[i + 1]);
+    while i < classes.len() && window.slots > 0 {
+        window = extend(window, classes[i], after[i + 1]);
         i += 1;
     }
-    going.least
+    window.least
 }
 
-// The least covered count of the slots from one on, given that of the slots behind it.
-fn covers(settings: Settings, classes: &[u8], behind: &[u16; PLACES], i: usize, next: u16) -> u16
-    requires { ⌜ (length (now classes) ≤ limit) × (i < length (now classes)) × (length (now behind) ≡ places) ⌝ }
-    ensures { λ r. ⌜ ((w : ℕ) → Behind settings (decoded (now (classes .entry))) w (now (behind .entry)) →
-        next ≡ leastFrom settings (decoded (now (classes .entry))) (i + 1) w →
-        r ≡ leastFrom settings (decoded (now (classes .entry))) i w) ⌝ }
+// The least covered count of the slots from slot i on, where `next` is that of the slots after it.
+fn least_from(settings: Settings, classes: &[u8], after: &[u16; PLACES], i: usize, next: u16) -> u16
+    requires { ⌜ (length (now classes) ≤ limit) × (i < length (now classes)) × (length (now after) ≡ places) ⌝ }
+    ensures { λ r. ⌜ ((w : ℕ) → RowAfter settings (decodeAll (now (classes .entry))) w (now (after .entry)) →
+        next ≡ leastFrom settings (decodeAll (now (classes .entry))) (i + 1) w →
+        r ≡ leastFrom settings (decodeAll (now (classes .entry))) i w) ⌝ }
 {
     if classes[i] != OVER {
         return next;
     }
-    let later = onward(settings, classes, behind, i + 1);
-    together(1, smaller(behind[i + 1], later))
+    let later = least_inside(settings, classes, after, i + 1);
+    saturating_add(1, smaller(after[i + 1], later))
 }
 
-// A row of least counts, by what comes after a window.
-fn next_row(settings: Settings, classes: &[u8], behind: &[u16; PLACES]) -> [u16; PLACES]
-    requires { ⌜ (length (now classes) ≤ limit) × (length (now behind) ≡ places) ⌝ }
-    ensures { λ r. ⌜ ((w : ℕ) → Behind settings (decoded (now (classes .entry))) w (now (behind .entry)) →
-        Row settings (decoded (now (classes .entry))) w r) ⌝ }
+// A row of least counts, computed from the row `after` of what comes after a window.
+fn next_row(settings: Settings, classes: &[u8], after: &[u16; PLACES]) -> [u16; PLACES]
+    requires { ⌜ (length (now classes) ≤ limit) × (length (now after) ≡ places) ⌝ }
+    ensures { λ r. ⌜ ((w : ℕ) → RowAfter settings (decodeAll (now (classes .entry))) w (now (after .entry)) →
+        Row settings (decodeAll (now (classes .entry))) w r) ⌝ }
 {
     let mut row = [0; PLACES];
     let mut i = classes.len();
     while i > 0 {
         i -= 1;
-        row[i] = covers(settings, classes, behind, i, row[i + 1]);
+        row[i] = least_from(settings, classes, after, i, row[i + 1]);
     }
     row
 }
@@ -165,40 +168,40 @@ fn above(count: u16, most: u16) -> u16
     0
 }
 
-// The rows of fewer than w windows, of which only the last is kept.
-fn fill(settings: Settings, classes: &[u8], w: u16) -> Filled
+// The rows for fewer than w windows, of which only the last is kept.
+fn fill_rows(settings: Settings, classes: &[u8], w: u16) -> Filled
     requires { ⌜ length (now classes) ≤ limit ⌝ }
-    ensures { λ r. ⌜ Behind settings (decoded (now (classes .entry))) w (r .behind)
-        × (r .first ≡ firstBelow settings (decoded (now (classes .entry))) w) ⌝ }
+    ensures { λ r. ⌜ RowAfter settings (decodeAll (now (classes .entry))) w (r .after)
+        × (r .first ≡ firstBelow settings (decodeAll (now (classes .entry))) w) ⌝ }
 {
-    let mut behind = [NO_PLAN; PLACES];
+    let mut after = [NO_PLAN; PLACES];
     let mut first = 0;
     let mut v = 0;
     while v < w {
-        behind = next_row(settings, classes, &behind);
-        first += above(behind[0], settings.covered.most);
+        after = next_row(settings, classes, &after);
+        first += above(after[0], settings.covered.most);
         v += 1;
     }
-    Filled { behind, first }
+    Filled { after, first }
 }
 
 // Both least counts, read off the rows.
-fn read_off(settings: Settings, classes: &[u8]) -> Least
+fn counts_of_rows(settings: Settings, classes: &[u8]) -> LeastCounts
     requires { ⌜ length (now classes) ≤ limit ⌝ }
-    ensures { λ r. ⌜ (r .windows ≡ sparsest settings (decoded (now (classes .entry))))
-        × (r .covered ≡ cheapest settings (decoded (now (classes .entry)))) ⌝ }
+    ensures { λ r. ⌜ (r .windows ≡ leastWindowCount settings (decodeAll (now (classes .entry))))
+        × (r .covered ≡ leastCoveredCount settings (decodeAll (now (classes .entry)))) ⌝ }
 {
-    let last = fill(settings, classes, settings.windows.most);
-    let behind = last.behind;
-    let row = next_row(settings, classes, &behind);
-    Least {
+    let last = fill_rows(settings, classes, settings.windows.most);
+    let after = last.after;
+    let row = next_row(settings, classes, &after);
+    LeastCounts {
         windows: last.first,
         covered: row[0],
     }
 }
 
-// As many slots as a row has places for.
-fn fitting(n: usize) -> usize
+// The number of slots, or LIMIT if that is smaller: as many as a row has places for.
+fn at_most_limit(n: usize) -> usize
     ensures { λ r. ⌜ r ≡ min n limit ⌝ }
 {
     if n > LIMIT {
@@ -207,21 +210,22 @@ fn fitting(n: usize) -> usize
     n
 }
 
-// What comes after a window, of the first LIMIT slots, as `Filled` says. The settings are not checked: a len of 0 counts
-// as 1.
+// What comes after a window, in the first LIMIT slots, as `Filled` says. The settings are not
+// checked: a len of 0 counts as 1.
 pub fn rows(settings: Settings, classes: &[u8], w: u16) -> Filled
-    ensures { λ r. ⌜ Behind settings (decoded (take limit (now (classes .entry)))) w (r .behind)
-        × (r .first ≡ firstBelow settings (decoded (take limit (now (classes .entry)))) w) ⌝ }
+    ensures { λ r. ⌜ RowAfter settings (decodeAll (take limit (now (classes .entry)))) w (r .after)
+        × (r .first ≡ firstBelow settings (decodeAll (take limit (now (classes .entry)))) w) ⌝ }
 {
-    let n = fitting(classes.len());
-    fill(settings, &classes[..n], w)
+    let n = at_most_limit(classes.len());
+    fill_rows(settings, &classes[..n], w)
 }
 
-// Both least counts of the first LIMIT slots, as `Least` says. The settings are not checked: a len of 0 counts as 1.
-pub fn low(settings: Settings, classes: &[u8]) -> Least
-    ensures { λ r. ⌜ (r .windows ≡ sparsest settings (decoded (take limit (now (classes .entry)))))
-        × (r .covered ≡ cheapest settings (decoded (take limit (now (classes .entry))))) ⌝ }
+// Both least counts of the first LIMIT slots, as `LeastCounts` says. The settings are not checked:
+// a len of 0 counts as 1.
+pub fn least_counts(settings: Settings, classes: &[u8]) -> LeastCounts
+    ensures { λ r. ⌜ (r .windows ≡ leastWindowCount settings (decodeAll (take limit (now (classes .entry)))))
+        × (r .covered ≡ leastCoveredCount settings (decodeAll (take limit (now (classes .entry))))) ⌝ }
 {
-    let n = fitting(classes.len());
-    read_off(settings, &classes[..n])
+    let n = at_most_limit(classes.len());
+    counts_of_rows(settings, &classes[..n])
 }

@@ -2,17 +2,18 @@
 use Prim.Native.Nat.{ℕ}
 use mathlib.Core.List.{List, [], _∷_, _++_}
 use lib.Seq.{append-snoc}
-use Rattle.listing.proofs.Writing.{then}
+use Rattle.listing.proofs.Written.{written-append}
 use Rattle.listing.specs.Text.{Written, line}
 
 module _ (field : List ℕ) {p q : ℕ} {before between : List ℕ} where
-  pub last : Written (field ++ (10 ∷ [])) p before between q → Written (line (field ∷ [])) p before between q
+  pub line-last : Written (field ++ (10 ∷ [])) p before between q → Written (line (field ∷ [])) p before between q
   unfolding line
-  last v = v
+  line-last v = v
 
-  pub more : (next : List ℕ) (fields : List (List ℕ)) {r : ℕ} {after : List ℕ} → Written (field ++ (32 ∷ [])) p before between q →
+  pub line-more : (next : List ℕ) (fields : List (List ℕ)) {r : ℕ} {after : List ℕ} →
+      Written (field ++ (32 ∷ [])) p before between q →
       Written (line (next ∷ fields)) q between after r → Written (line (field ∷ next ∷ fields)) p before after r
   unfolding line
-  more next fields v w = rw append-snoc at (then v w)
+  line-more next fields v w = rw append-snoc at (written-append v w)
 
-pub ruleset fields = (last, more)
+pub ruleset fields = (line-last, line-more)

@@ -1,4 +1,4 @@
--- How long a text can be, for the types of its numbers: together at most `room`.
+-- How long a text can be, by the types of its numbers: at most `maxLength`.
 use Prim.Native.Nat.{ℕ, suc, _+_, _*_, _≤_, _<_, _^_}
 use native.Mathlib.Omega.{arith}
 use mathlib.Core.List.{List, [], _∷_, _++_}
@@ -13,9 +13,10 @@ use Rattle.requests.specs.Promise.{no-plan, planned}
 use Rattle.requests.specs.declared.PlanCounts.{PlanCounts}
 use Rattle.settings.specs.Refusals.{limit}
 use Rattle.listing.proofs.Decimals.{digits-at-most}
-use Rattle.listing.specs.Text.{ascii, decimal, signed, line, counts, row, rows, said, rowRoom, room}
+use Rattle.listing.specs.Text.{ascii, decimal, signed, line, countsLine, slotLine, slotLines, answerText}
+use Rattle.listing.specs.Text.{maxLineLength, maxLength}
 
--- each field takes one byte more
+-- each field takes one byte more, which ends it
 abbrev fieldsLength : List (List ℕ) → ℕ
 fieldsLength [] = 0
 fieldsLength (field ∷ fields) = length field + 1 + fieldsLength fields
@@ -28,12 +29,15 @@ line-length field (next ∷ fields) =
 
 signed-short : (z : ℤ) → SFits w32 z → length (signed z) ≤ 11
 unfolding signed
-signed-short (pos n) f = let small : n < 2147483648 = f .sfits in omega (arith, digits-at-most n 9 (omega arith))
-signed-short (negsuc n) f = let small : n < 2147483648 = f .sfits in omega (arith, digits-at-most (suc n) 9 (omega arith))
+signed-short (pos n) f = let bounded : n < 2147483648 = f .sfits in omega (arith, digits-at-most n 9 (omega arith))
+signed-short (negsuc n) f =
+    let bounded : n < 2147483648 = f .sfits in
+    omega (arith, digits-at-most (suc n) 9 (omega arith))
 
-pub row-short : (i : ℕ) (lo hi : ℤ) (m : ℕ) → i < limit → SFits w32 lo → SFits w32 hi → m < 256 → length (row i lo hi m) ≤ rowRoom
-unfolding row
-row-short i lo hi m h f g k =
+pub slotLine-short : (i : ℕ) (lo hi : ℤ) (m : ℕ) → i < limit → SFits w32 lo → SFits w32 hi → m < 256 →
+    length (slotLine i lo hi m) ≤ maxLineLength
+unfolding slotLine
+slotLine-short i lo hi m bound f g mark =
     omega (
       arith,
       line-length (decimal i) (signed lo ∷ signed hi ∷ decimal m ∷ []),
@@ -43,10 +47,10 @@ row-short i lo hi m h f g k =
       digits-at-most m 2 (omega arith),
     )
 
-counts-short : (word : List ℕ) (range : CountRange) → length word ≤ 7 → range .least < 65536 → range .most < 65536 →
-    length (counts word range) ≤ 20
-unfolding counts
-counts-short word range h f g =
+countsLine-short : (word : List ℕ) (range : CountRange) → length word ≤ 7 → range .least < 65536 → range .most < 65536 →
+    length (countsLine word range) ≤ 20
+unfolding countsLine
+countsLine-short word range bound f g =
     omega (
       arith,
       line-length word (decimal (range .least) ∷ decimal (range .most) ∷ []),
@@ -54,12 +58,13 @@ counts-short word range h f g =
       digits-at-most (range .most) 4 (omega arith),
     )
 
-pub alone-short : (code : ℕ) → code < 65536 → length (line (ascii "refused" ∷ decimal code ∷ [])) ≤ room
-alone-short code h = omega (arith, line-length (ascii "refused") (decimal code ∷ []), digits-at-most code 4 (omega arith))
+pub refusalLine-short : (code : ℕ) → code < 65536 → length (line (ascii "refused" ∷ decimal code ∷ [])) ≤ maxLength
+refusalLine-short code bound =
+    omega (arith, line-length (ascii "refused") (decimal code ∷ []), digits-at-most code 4 (omega arith))
 
-pub with-slot-short : (code i : ℕ) → code < 65536 → i < 2 ^ 64 →
-    length (line (ascii "refused" ∷ decimal code ∷ ascii "slot" ∷ decimal i ∷ [])) ≤ room
-with-slot-short code i h g =
+pub crossedLine-short : (code i : ℕ) → code < 65536 → i < 2 ^ 64 →
+    length (line (ascii "refused" ∷ decimal code ∷ ascii "slot" ∷ decimal i ∷ [])) ≤ maxLength
+crossedLine-short code i bound g =
     omega (
       arith,
       line-length (ascii "refused") (decimal code ∷ ascii "slot" ∷ decimal i ∷ []),
@@ -67,22 +72,24 @@ with-slot-short code i h g =
       digits-at-most i 19 (omega arith),
     )
 
-pub no-plan-short : length (said (gives no-plan) [] [] []) ≤ room
-unfolding said
+pub no-plan-short : length (answerText (gives no-plan) [] [] []) ≤ maxLength
+unfolding answerText
 no-plan-short = omega (arith, line-length (ascii "no plan") [])
 
--- both counts of a range are of 16 bits
-abbrev Small : CountRange → Type 0
-Small range = (range .least < 65536) × (range .most < 65536)
+-- both counts of a range fit into 16 bits
+abbrev Fits16 : CountRange → Type 0
+Fits16 range = (range .least < 65536) × (range .most < 65536)
 
-pub planned-short : (n : PlanCounts) (los his : List ℤ) (ms : List ℕ) → Small (n .windows) → Small (n .covered) →
-    length (rows 0 los his ms) ≤ rowRoom * limit → length (said (gives (planned n)) los his ms) ≤ room
-unfolding said
-planned-short n los his ms (wl, wm) (cl, cm) h =
+pub planned-short : (n : PlanCounts) (los his : List ℤ) (ms : List ℕ) → Fits16 (n .windows) → Fits16 (n .covered) →
+    length (slotLines 0 los his ms) ≤ maxLineLength * limit →
+    length (answerText (gives (planned n)) los his ms) ≤ maxLength
+unfolding answerText
+planned-short n los his ms (wl, wm) (cl, cm) bound =
     omega (
       arith,
-      length-append (counts (ascii "windows") (n .windows)) (counts (ascii "covered") (n .covered) ++ rows 0 los his ms),
-      length-append (counts (ascii "covered") (n .covered)) (rows 0 los his ms),
-      counts-short (ascii "windows") (n .windows) (omega arith) wl wm,
-      counts-short (ascii "covered") (n .covered) (omega arith) cl cm,
+      length-append (countsLine (ascii "windows") (n .windows))
+          (countsLine (ascii "covered") (n .covered) ++ slotLines 0 los his ms),
+      length-append (countsLine (ascii "covered") (n .covered)) (slotLines 0 los his ms),
+      countsLine-short (ascii "windows") (n .windows) (omega arith) wl wm,
+      countsLine-short (ascii "covered") (n .covered) (omega arith) cl cm,
     )

@@ -3,5 +3,5 @@ pub mod Decimals
 mod Fields
 mod Lengths
 mod Signs
-mod Slots
-mod Writing
+mod SlotLinesLoop
+mod Written

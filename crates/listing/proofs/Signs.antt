@@ -10,6 +10,6 @@ pub with-minus : {z : ℤ} {n : ℕ} → z ≡ negsuc n → signed z ≡ ascii "
 unfolding signed
 with-minus e = rw (e, add-one) refl
 
-pub without : {z : ℤ} {n : ℕ} → z ≡ pos n → signed z ≡ decimal n
+pub without-minus : {z : ℤ} {n : ℕ} → z ≡ pos n → signed z ≡ decimal n
 unfolding signed
-without e = rw e refl
+without-minus e = rw e refl

@@ -1,5 +1,5 @@
--- Texts of answers beside what document 01 prints, computed in proofs/Cases.antt: case A, the ends of the loads' type, "no plan" and the
--- refusals.
+-- Texts of answers, compared with what document 01 prints: case A, "no plan", refusals, and the least and the
+-- greatest load of 32 bits. They are computed in proofs/Cases.antt.
 use mathlib.Core.List.{[], _∷_}
 use mathlib.Core.Path.{_≡_}
 use lib.IntN.{pos, negsuc}
@@ -7,7 +7,7 @@ use Rattle.refusals.specs.Answer.{gives}
 use Rattle.refusals.specs.declared.Refusal.the-variants.{FirstLength, Crossed}
 use Rattle.requests.specs.Cases.{_‥_, loads, counts}
 use Rattle.requests.specs.Promise.{no-plan, planned}
-use Rattle.listing.specs.Text.{ascii, row, refusal, said, text}
+use Rattle.listing.specs.Text.{ascii, slotLine, refusalLine, answerText, text}
 
 pub record Cases : Type 0 where
   pub case-a : text
@@ -18,7 +18,7 @@ pub record Cases : Type 0 where
         marks = 1 ∷ 2 ∷ 2 ∷ 0 ∷ [];
       })
       ≡ ascii "windows 1 1\ncovered 3 4\n0 1 3 1\n1 1 4 2\n2 5 5 2\n3 0 0 0\n"
-  pub ends-of-the-loads : row 63 (negsuc 2147483647) (pos 2147483647) 255 ≡ ascii "63 -2147483648 2147483647 255\n"
-  pub of-no-plan : said (gives no-plan) [] [] [] ≡ ascii "no plan\n"
-  pub refusal-21 : refusal FirstLength ≡ ascii "refused 21\n"
-  pub refusal-31 : refusal (Crossed 12) ≡ ascii "refused 31 slot 12\n"
+  pub ends-of-the-loads : slotLine 63 (negsuc 2147483647) (pos 2147483647) 255 ≡ ascii "63 -2147483648 2147483647 255\n"
+  pub of-no-plan : answerText (gives no-plan) [] [] [] ≡ ascii "no plan\n"
+  pub refusal-21 : refusalLine FirstLength ≡ ascii "refused 21\n"
+  pub refusal-31 : refusalLine (Crossed 12) ≡ ascii "refused 31 slot 12\n"

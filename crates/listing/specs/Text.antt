@@ -22,8 +22,8 @@ abbrev pub ascii : String → List ℕ
 ascii string.[] = []
 ascii (string._∷_ c s) = code c ∷ ascii s
 
--- numbers are decimal without leading zeros: a digit, or the digits of a tenth and one more. A tenth is smaller than the
--- number, so that as many turns as the number says are enough. The digit 0 is the byte 48
+-- Numbers are decimal, without leading zeros: one digit, or the digits of n / 10 and one more. There n / 10 is
+-- smaller than n, so n turns are enough. The digit 0 is the byte 48.
 unfoldable pub digits : (turns n : ℕ) → List ℕ
 digits zero n = (48 + n) ∷ []
 digits (suc turns) n = cond (ltb n 10) ((48 + n) ∷ []) (digits turns (n / 10) ++ ((48 + n % 10) ∷ []))
@@ -31,7 +31,7 @@ digits (suc turns) n = cond (ltb n 10) ((48 + n) ∷ []) (digits turns (n / 10) 
 unfoldable pub decimal : ℕ → List ℕ
 decimal n = digits n n
 
--- the number that digits say
+-- the number that digits say; `before` is what the digits before them say
 abbrev pub value : (before : ℕ) (ds : List ℕ) → ℕ
 value n [] = n
 value n (d ∷ ds) = value (n * 10 + (d - 48)) ds
@@ -46,61 +46,64 @@ pub record Decimal (n : ℕ) : Type 0 where
   pub says : value 0 (decimal n) ≡ n
   pub no-leading-zero : 1 ≤ n → 49 ≤ getD (decimal n) 0 48
 
--- a negative one with a minus sign before it
+-- a negative number has a minus sign before its digits
 unfoldable pub signed : ℤ → List ℕ
 signed (pos n) = decimal n
 signed (negsuc n) = ascii "-" ++ decimal (suc n)
 
--- one space between fields, each line ended by a line feed
+-- one space stands between fields, and each line ends with a line feed
 unfoldable pub line : List (List ℕ) → List ℕ
 line [] = ascii "\n"
 line (field ∷ []) = field ++ ascii "\n"
 line (field ∷ next ∷ fields) = field ++ (ascii " " ++ line (next ∷ fields))
 
--- the word of a count range, least, most
-unfoldable pub counts : (word : List ℕ) → CountRange → List ℕ
-counts word range = line (word ∷ decimal (range .least) ∷ decimal (range .most) ∷ [])
+-- the line of a count range: its word, its least, its most
+unfoldable pub countsLine : (word : List ℕ) → CountRange → List ℕ
+countsLine word range = line (word ∷ decimal (range .least) ∷ decimal (range .most) ∷ [])
 
--- a slot's number, lowest load, highest load and mark
-unfoldable pub row : (i : ℕ) (lowest highest : ℤ) (mark : ℕ) → List ℕ
-row i lo hi m = line (decimal i ∷ signed lo ∷ signed hi ∷ decimal m ∷ [])
+-- the line of a slot: its number, lowest load, highest load and mark
+unfoldable pub slotLine : (i : ℕ) (lowest highest : ℤ) (mark : ℕ) → List ℕ
+slotLine i lo hi m = line (decimal i ∷ signed lo ∷ signed hi ∷ decimal m ∷ [])
 
--- the slots from number i on. The lists are of one length where the filter hands them back; else the shortest decides
-unfoldable pub rows : (i : ℕ) (lowest highest : List ℤ) (marks : List ℕ) → List ℕ
-rows i [] his ms = []
-rows i (lo ∷ los) [] ms = []
-rows i (lo ∷ los) (hi ∷ his) [] = []
-rows i (lo ∷ los) (hi ∷ his) (m ∷ ms) = row i lo hi m ++ rows (suc i) los his ms
+-- the lines of the slots from number i on. The filter hands back lists of one length; of other lists the shortest
+-- decides how many lines there are
+unfoldable pub slotLines : (i : ℕ) (lowest highest : List ℤ) (marks : List ℕ) → List ℕ
+slotLines i [] his ms = []
+slotLines i (lo ∷ los) [] ms = []
+slotLines i (lo ∷ los) (hi ∷ his) [] = []
+slotLines i (lo ∷ los) (hi ∷ his) (m ∷ ms) = slotLine i lo hi m ++ slotLines (suc i) los his ms
 
--- on a refusal `refused` and the number, and for 31 also `slot` and its number
-unfoldable pub refusal : Refusal → List ℕ
-refusal r =
+-- on a refusal, `refused` and the refusal's number, and for 31 also `slot` and the slot's number
+unfoldable pub refusalLine : Refusal → List ℕ
+refusalLine r =
     cond
     (eqb (number r) 31)
     (line (ascii "refused" ∷ decimal (number r) ∷ ascii "slot" ∷ decimal (slot r) ∷ []))
     (line (ascii "refused" ∷ decimal (number r) ∷ []))
 
--- on "planned" both count ranges, then the slots
-unfoldable pub said : Answer Result → (lowest highest : List ℤ) (marks : List ℕ) → List ℕ
-said (refuses r) los his ms = refusal r
-said (gives no-plan) los his ms = line (ascii "no plan" ∷ [])
-said (gives (planned n)) los his ms =
-    counts (ascii "windows") (n .windows) ++ (counts (ascii "covered") (n .covered) ++ rows 0 los his ms)
+-- on "planned", the lines of both count ranges, then those of the slots
+unfoldable pub answerText : Answer Result → (lowest highest : List ℤ) (marks : List ℕ) → List ℕ
+answerText (refuses r) los his ms = refusalLine r
+answerText (gives no-plan) los his ms = line (ascii "no plan" ∷ [])
+answerText (gives (planned n)) los his ms =
+    countsLine (ascii "windows") (n .windows) ++ (countsLine (ascii "covered") (n .covered) ++ slotLines 0 los his ms)
 
 -- the whole text
 unfoldable pub text : Outcome → List ℕ
-text o = said (o .answer) (o .lowest) (o .highest) (o .marks)
+text o = answerText (o .answer) (o .lowest) (o .highest) (o .marks)
 
--- A text written into a lent buffer from a place on: as much as there is room for, the rest of the buffer as it was. What comes
--- back is the place behind it.
-pub record Written (text : List ℕ) (place : ℕ) (before after : List ℕ) (behind : ℕ) : Type 0 where
+-- A text written into a lent buffer from a place on: as much of it as fits; the rest of the buffer is as it was. What
+-- comes back is the place after what was written.
+pub record Written (text : List ℕ) (place : ℕ) (before after : List ℕ) (end : ℕ) : Type 0 where
   pub stored : after ≡ sets before place text
-  pub ends : behind ≡ min (place + length text) (length before)
+  pub ends : end ≡ min (place + length text) (length before)
 
--- Room for the line of a slot: its number of 3 digits, two loads of 11 bytes, a mark of 3 digits, and a byte behind each.
-abbrev pub rowRoom : ℕ
-rowRoom = 32
+-- A bound on the length of a slot's line: a number of 3 digits, two loads of 11 bytes, a mark of 3 digits, and a byte
+-- after each.
+abbrev pub maxLineLength : ℕ
+maxLineLength = 32
 
--- Room for the text of every answer with at most the limit's slots: two lines of counts with 5 digits, and the slots.
-abbrev pub room : ℕ
-room = 40 + rowRoom * limit
+-- A bound on the length of an answer's text with at most `limit` slots: two lines of counts of 5 digits, and the
+-- lines of the slots.
+abbrev pub maxLength : ℕ
+maxLength = 40 + maxLineLength * limit

@@ -1,5 +1,5 @@
-// Bytes, words and numbers, written into a lent buffer from a place on. What comes back is the place behind them; a buffer that is
-// too short keeps what there is room for.
+// Bytes, words and numbers, written into a lent buffer from a place on. What comes back is the place after them; a
+// buffer that is too short takes what fits.
 ghost use mathlib.Core.List.{[], _∷_, _++_};
 ghost use Rattle.listing.specs.Text.{decimal as Text·decimal, signed as Text·signed, Written};
 
@@ -13,7 +13,7 @@ fn byte(b: u8, out: &mut [u8], place: usize) -> usize
     out.len()
 }
 
-// The digits of the tenth, if there is one, and the last digit.
+// The digits of n / 10, where n has more than one digit, and the last digit.
 fn decimal(n: u64, out: &mut [u8], place: usize) -> usize
     ensures { λ r. ⌜ Written (Text·decimal n) place (now (out .entry)) (now (out .exit)) r ⌝ }
 {
@@ -28,8 +28,8 @@ fn decimal(n: u64, out: &mut [u8], place: usize) -> usize
 pub(crate) fn number(n: u64, end: u8, out: &mut [u8], place: usize) -> usize
     ensures { λ r. ⌜ Written (Text·decimal n ++ (end ∷ [])) place (now (out .entry)) (now (out .exit)) r ⌝ }
 {
-    let behind = decimal(n, out, place);
-    byte(end, out, behind)
+    let next = decimal(n, out, place);
+    byte(end, out, next)
 }
 
 // A signed number, with a minus sign where it is negative, and the byte that ends its field.
@@ -47,11 +47,11 @@ pub(crate) fn signed(x: i32, end: u8, out: &mut [u8], place: usize) -> usize
 pub(crate) fn word(text: &[u8], end: u8, out: &mut [u8], place: usize) -> usize
     ensures { λ r. ⌜ Written (now (text .entry) ++ (end ∷ [])) place (now (out .entry)) (now (out .exit)) r ⌝ }
 {
-    let mut behind = place;
+    let mut next = place;
     let mut i = 0;
     while i < text.len() {
-        behind = byte(text[i], out, behind);
+        next = byte(text[i], out, next);
         i += 1;
     }
-    byte(end, out, behind)
+    byte(end, out, next)
 }

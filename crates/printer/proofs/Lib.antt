@@ -1,1 +1,1 @@
-mod Telling
+mod OfFile

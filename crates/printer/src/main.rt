@@ -3,9 +3,9 @@ ghost use mathlib.Core.Path.{_≡_};
 ghost use Prim.Native.Nat.{_≤_};
 ghost use lib.ListN.{length};
 ghost use Rattle.settings.specs.Refusals.{limit};
-ghost use Rattle.requests.specs.Request.{asked};
-ghost use Rattle.listing.specs.Text.{room};
-ghost use Rattle.printer.specs.Printing.{held, Printed, OfFile, loads, marks as Printing·marks};
+ghost use Rattle.requests.specs.Request.{requestOf};
+ghost use Rattle.listing.specs.Text.{maxLength};
+ghost use Rattle.printer.specs.Printed.{heldBytes, Printed, OfFile, loads, marks as Printed·marks};
 ghost use Rattle.requests.specs.Promise.{Keeps};
 use card::Reading;
 use card::read;
@@ -15,15 +15,15 @@ use libc::STDOUT_FILENO;
 use settings::LIMIT;
 use settings::Settings;
 
-// How many bytes of a file are held: one more than it may have, so that a longer one is refused.
-const HELD: usize = 4097;
+// How many bytes of a file are held: one more than a file may have, so that a longer one is refused.
+const HELD_BYTES: usize = 4097;
 
-// Room for the text of every answer: `print` asks for at least `room` bytes.
-const ROOM: usize = 40 + 32 * LIMIT;
+// The length of the buffer for the text. Every answer's text fits: `print` asks for at least `maxLength` bytes.
+const MAX_LENGTH: usize = 40 + 32 * LIMIT;
 
-// What was read of a file: the first bytes, `size` of them.
+// What was read of a file: the first `size` of `bytes`.
 pub struct Input {
-    pub bytes: [u8; HELD],
+    pub bytes: [u8; HELD_BYTES],
     pub size: usize,
 }
 
@@ -31,24 +31,25 @@ fn main() {
     let input = read_input();
     let size = input.size;
     let file = input.bytes;
-    let mut text = [0; ROOM];
+    let mut text = [0; MAX_LENGTH];
     let length = print(&file[..size], &mut text);
     io::write_all(STDOUT_FILENO, &text[..length]);
 }
 
 // Reads standard input up to its end, or as much as is held.
 fn read_input() -> Input
-    ensures { λ r. ⌜ (length (r .bytes) ≡ held) × (r .size ≤ held) ⌝ }
+    ensures { λ r. ⌜ (length (r .bytes) ≡ heldBytes) × (r .size ≤ heldBytes) ⌝ }
 {
-    let mut bytes = [0; HELD];
+    let mut bytes = [0; HELD_BYTES];
     let size = io::read_full(STDIN_FILENO, &mut bytes);
     Input { bytes, size }
 }
 
-// The text for a file.
+// Writes the text for a file, and gives its length.
 fn print(file: &[u8], text: &mut [u8]) -> usize
-    requires { ⌜ room ≤ length (now text) ⌝ }
-    ensures { λ r. ⌜ Printed (OfFile (now (file .entry)) loads loads Printing·marks) (now (text .entry)) (now (text .exit)) r ⌝ }
+    requires { ⌜ maxLength ≤ length (now text) ⌝ }
+    ensures { λ r. ⌜ Printed (OfFile (now (file .entry)) loads loads Printed·marks) (now (text .entry))
+        (now (text .exit)) r ⌝ }
 {
     let mut lowest = [0i32; LIMIT];
     let mut highest = [0i32; LIMIT];
@@ -56,7 +57,7 @@ fn print(file: &[u8], text: &mut [u8]) -> usize
     print_with(file, &mut lowest, &mut highest, &mut marks, text)
 }
 
-// The text for a file, with slices to work in.
+// The same, with slices to work in.
 fn print_with(
     file: &[u8],
     lowest: &mut [i32],
@@ -65,12 +66,13 @@ fn print_with(
     text: &mut [u8],
 ) -> usize
     requires { ⌜ (length (now lowest) ≡ limit) × (length (now highest) ≡ limit) × (length (now marks) ≡ limit) ⌝ }
-    requires { ⌜ room ≤ length (now text) ⌝ }
-    ensures { λ r. ⌜ Printed (OfFile (now (file .entry)) (now (lowest .entry)) (now (highest .entry)) (now (marks .entry)))
+    requires { ⌜ maxLength ≤ length (now text) ⌝ }
+    ensures { λ r. ⌜ Printed
+        (OfFile (now (file .entry)) (now (lowest .entry)) (now (highest .entry)) (now (marks .entry)))
         (now (text .entry)) (now (text .exit)) r ⌝ }
 {
     match read(file, lowest, highest) {
-        Reading::Refused(refusal) => listing::refused(refusal, text),
+        Reading::Refused(refusal) => listing::write_refusal(refusal, text),
         Reading::Taken { settings, n } => print_plan(
             settings,
             &mut lowest[..n],
@@ -81,7 +83,7 @@ fn print_with(
     }
 }
 
-// The text for a request.
+// Writes the text for a request, and gives its length.
 fn print_plan(
     settings: Settings,
     lowest: &mut [i32],
@@ -89,10 +91,11 @@ fn print_plan(
     marks: &mut [u8],
     text: &mut [u8],
 ) -> usize
-    requires { ⌜ (length (now lowest) ≤ limit) × (room ≤ length (now text)) ⌝ }
-    ensures { λ r. ⌜ Printed (Keeps (asked settings (now (lowest .entry)) (now (highest .entry)) (now (marks .entry))))
+    requires { ⌜ (length (now lowest) ≤ limit) × (maxLength ≤ length (now text)) ⌝ }
+    ensures { λ r. ⌜ Printed
+        (Keeps (requestOf settings (now (lowest .entry)) (now (highest .entry)) (now (marks .entry))))
         (now (text .entry)) (now (text .exit)) r ⌝ }
 {
     let answer = filter(settings, lowest, highest, marks);
-    listing::answered(answer, lowest, highest, marks, text)
+    listing::write_answer(answer, lowest, highest, marks, text)
 }

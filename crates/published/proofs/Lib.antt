@@ -2,6 +2,6 @@ pub mod Corners
 pub mod Draws
 pub mod Examples
 pub mod Sets
-pub mod Slots
+pub mod LoadsFrom
 pub mod Theorems
-pub mod Walk
+pub mod Drawn

@@ -1,4 +1,4 @@
--- What an answer comes to, by the refusal that is given.
+-- What an answer is, depending on the refusal that is given, if any.
 use mathlib.Core.Logic.{_↔_}
 use mathlib.Core.Option.{Option, none, some, Option·some-ne-none, Option·some-injective}
 use mathlib.Core.Path.{_≡_, refl, sym, ap}
@@ -14,17 +14,19 @@ given? (refuses r) = none
 given? (gives a) = some a
 
 -- an answer refuses with the refusal that is given, and in no other situation
-pub refused-by : {A : Type 0} (o : Option Refusal) (asked : A) (r : Refusal) → (answer o asked ≡ refuses r) ↔ (o ≡ some r)
-refused-by o asked r = ((λ e. to o (ap refusal? e)), λ e. rw e refl)
+pub answer-refuses : {A : Type 0} (o : Option Refusal) (asked : A) (r : Refusal) →
+    (answer o asked ≡ refuses r) ↔ (o ≡ some r)
+answer-refuses o asked r = ((λ e. to o (ap refusal? e)), λ e. rw e refl)
   where
     to : (o : Option Refusal) → refusal? (answer o asked) ≡ some r → o ≡ some r
     to none e = e
     to (some q) e = e
 
--- else it gives what was asked
-pub given-by : {A : Type 0} (o : Option Refusal) (asked : A) {a : A} → answer o asked ≡ gives a → (o ≡ none) × (a ≡ asked)
-given-by none asked e = (refl, sym (Option·some-injective _ _ (ap given? e)))
-given-by (some r) asked e = absurd (Option·some-ne-none _ (sym (ap given? e)))
+-- an answer that gives something gives what was asked, and there is no refusal
+pub answer-gives : {A : Type 0} (o : Option Refusal) (asked : A) {a : A} → answer o asked ≡ gives a →
+    (o ≡ none) × (a ≡ asked)
+answer-gives none asked e = (refl, sym (Option·some-injective _ _ (ap given? e)))
+answer-gives (some r) asked e = absurd (Option·some-ne-none _ (sym (ap given? e)))
 
-pub same-refused : {A : Type 0} {q r : Refusal} → _≡_ {A = Answer A} (refuses q) (refuses r) → q ≡ r
-same-refused e = Option·some-injective _ _ (ap refusal? e)
+pub refuses-injective : {A : Type 0} {q r : Refusal} → _≡_ {A = Answer A} (refuses q) (refuses r) → q ≡ r
+refuses-injective e = Option·some-injective _ _ (ap refusal? e)

@@ -1,3 +1,3 @@
 pub mod Answer
-pub mod Numbered
+pub mod Injective
 pub mod Table

@@ -1,4 +1,4 @@
--- A refusal, with what it carries, or what was asked.
+-- An answer is a refusal, with what it carries, or what was asked.
 use mathlib.Core.Option.{Option, none, some}
 use Rattle.refusals.specs.declared.Refusal.{Refusal}
 use Rattle.refusals.specs.declared.Checked.{Checked}
@@ -12,7 +12,7 @@ abbrev pub answer : {A : Type 0} → Option Refusal → A → Answer A
 answer (some r) asked = refuses r
 answer none asked = gives asked
 
--- what a check found
-abbrev pub checked : Checked → Option Refusal
-checked Passed = none
-checked (Refused r) = some r
+-- what the result of a check means: no refusal, or the one that applies
+abbrev pub meaning : Checked → Option Refusal
+meaning Passed = none
+meaning (Refused r) = some r

@@ -24,7 +24,7 @@ number (Crossed i) = 31
 number Unreached = 32
 number Full = 33
 
--- 0 where a refusal carries none
+-- 0 where a refusal carries no slot
 abbrev pub slot : Refusal → ℕ
 slot Size = 0
 slot End = 0

@@ -1,4 +1,4 @@
--- Which refusal is given, for a table of them (document 01, "Where each refusal is checked").
+-- Which refusal is given, for a table of refusals (document 01, "Where each refusal is checked").
 use mathlib.Core.Bool.{Bool, cond}
 use mathlib.Core.List.{List, [], _∷_}
 use mathlib.Core.Option.{Option, none, some}
@@ -8,8 +8,8 @@ use Rattle.refusals.specs.declared.Refusal.{Refusal}
 unfoldable pub row : Refusal → (applies : Bool) → Option Refusal
 row r applies = cond applies (some r) none
 
--- Places are met from top to bottom, numbers within a place in rising order; the first that applies is given. Rows that are met
--- together, as a place's, may stand as one.
+-- Places are met from top to bottom, numbers within a place in rising order; the first that applies is given. Rows that
+-- are met together, such as those of one place, may stand as one entry.
 unfoldable pub first : List (Option Refusal) → Option Refusal
 first [] = none
 first (some r ∷ rows) = some r

@@ -1,9 +1,9 @@
-// Why something is refused. Document 01's numbers are specs/Numbers.antt.
+// Why something is refused. Document 01's numbers are in specs/Numbers.antt.
 ghost use mathlib.Core.Path.{_≡_};
 ghost use Rattle.refusals.specs.Numbers.{number as Numbers·number, slot as Numbers·slot};
 
-// Every refusal, by where it is met: a file on the card (11 to 17, then 19), lengths and settings (21 to 26), slots (31, with the
-// first whose lowest load is above its highest), a step of the watch (32, then 33).
+// Every refusal, by the place that checks it: a file on the card (11 to 17, then 19), lengths and settings (21 to 26),
+// slots (31, which carries the first slot whose lowest load is above its highest), a step of the watch (32, then 33).
 pub enum Refusal {
     Size,
     End,

@@ -10,35 +10,38 @@ use lib.Seq.{ext-getD}
 use lib.Signed.{_≤ℤ_, ≤ℤ-refl}
 use Rattle.facts.proofs.Integers.{≤ℤ-trans, ≤ℤ-antisym}
 use Rattle.refusals.specs.Answer.{Answer, refuses, gives}
-use Rattle.rule.proofs.Leasts.{no-higher}
-use Rattle.settings.proofs.Passing.{same-range}
+use Rattle.rule.proofs.LeastOver.{least-mono}
+use Rattle.settings.proofs.Accepted.{countRange-ext}
 use Rattle.settings.specs.declared.CountRange.{CountRange}
-use Rattle.requests.proofs.Choices.{in-slots}
-use Rattle.requests.specs.Promise.{Result, no-plan, planned, Outcome, Says, Held, Unaltered, Raised, Planned, Answers, Keeps, Alike}
+use Rattle.requests.proofs.ChosenIn.{in-slots}
+use Rattle.requests.specs.Promise.{Result, no-plan, planned, Outcome, Says, Held, Unaltered, Raised, Planned}
+use Rattle.requests.specs.Promise.{Answers, Keeps, Alike}
 use Rattle.requests.specs.Request.{Request, slots, at}
 use Rattle.requests.specs.declared.PlanCounts.{PlanCounts}
 
--- nothing is altered in either
+-- two outcomes with one answer are alike if neither alters anything
 unaltered : {r : Request} {o p : Outcome} → o .answer ≡ p .answer → Unaltered r o → Unaltered r p → Alike o p
 unaltered e u v = record { answer = e; lowest = u .lowest ∙ sym (v .lowest); highest = u .highest ∙ sym (v .highest) }
 
 module _ (r : Request) where
-  same-ends : (count : List ℕ → ℕ) (given w w′ : CountRange) → Raised r count given w → Raised r count given w′ → w ≡ w′
-  same-ends count given w w′ a b =
+  raised-unique : (count : List ℕ → ℕ) (given w w′ : CountRange) → Raised r count given w →
+      Raised r count given w′ → w ≡ w′
+  raised-unique count given w w′ a b =
       let v : a .value ≡ b .value =
-      le-antisymm (no-higher (λ ms p. p) (b .least) (a .least)) (no-higher (λ ms p. p) (a .least) (b .least)) in
-      same-range w w′ (omega (arith, a .minimum, b .minimum)) (omega (arith, a .maximum, b .maximum))
+      le-antisymm (least-mono (λ ms p. p) (b .least) (a .least)) (least-mono (λ ms p. p) (a .least) (b .least)) in
+      countRange-ext w w′ (omega (arith, a .minimum, b .minimum)) (omega (arith, a .maximum, b .maximum))
 
-  module _ (o p : Outcome) (n m : PlanCounts) (a : Planned r n o) (b : Planned r m p) (i : ℕ) (h : i < slots r) where
-    -- some load is held at each slot
+  module _ (o p : Outcome) (n m : PlanCounts) (a : Planned r n o) (b : Planned r m p) (i : ℕ)
+      (bound : i < slots r) where
+    -- some load is in the range that comes back for slot i
     held : at (o .lowest) i ≤ℤ at (o .highest) i
     held =
         let (lo, hi) = in-slots (o .lowest) (o .highest) (a .drawn .loads) i
-        (omega (arith, h, a .lowest-length)) (omega (arith, h, a .highest-length)) (a .drawn .chosen) in
+        (omega (arith, bound, a .lowest-length)) (omega (arith, bound, a .highest-length)) (a .drawn .chosen) in
         ≤ℤ-trans lo hi
 
     moves : (x : ℤ) → Held o i x → Held p i x
-    moves x m = b .narrowed i h .exact x .1 (a .narrowed i h .exact x .0 m)
+    moves x m = b .narrowed i bound .exact x .1 (a .narrowed i bound .exact x .0 m)
 
     lower : at (p .lowest) i ≤ℤ at (o .lowest) i
     lower = moves _ (≤ℤ-refl _, held) .0
@@ -46,11 +49,12 @@ module _ (r : Request) where
     higher : at (o .highest) i ≤ℤ at (p .highest) i
     higher = moves _ (held, ≤ℤ-refl _) .1
 
-  module _ (o p : Outcome) (n m : PlanCounts) (e : Says o n) (f : Says p m) (a : Planned r n o) (b : Planned r m p) where
+  module _ (o p : Outcome) (n m : PlanCounts) (e : Says o n) (f : Says p m) (a : Planned r n o)
+      (b : Planned r m p) where
     same-counts : n ≡ m
     same-counts =
-        let windows = same-ends _ _ (n .windows) (m .windows) (a .windows) (b .windows) in
-        let covered = same-ends _ _ (n .covered) (m .covered) (a .covered) (b .covered) in
+        let windows = raised-unique _ _ (n .windows) (m .windows) (a .windows) (b .windows) in
+        let covered = raised-unique _ _ (n .covered) (m .covered) (a .covered) (b .covered) in
         λ i. record { windows = windows i; covered = covered i }
 
     both-planned : Alike o p
@@ -58,25 +62,30 @@ module _ (r : Request) where
         record {
           answer = e ∙ ap (λ n. gives (planned n)) same-counts ∙ sym f;
           lowest = ext-getD (pos 0) _ _ (a .lowest-length ∙ sym (b .lowest-length))
-              (λ i h.
-              let h′ : i < slots r = omega (arith, h, a .lowest-length) in
-              ≤ℤ-antisym (lower p o m n b a i h′) (lower o p n m a b i h′));
+              (λ i bound.
+              let bound′ : i < slots r = omega (arith, bound, a .lowest-length) in
+              ≤ℤ-antisym (lower p o m n b a i bound′) (lower o p n m a b i bound′));
           highest = ext-getD (pos 0) _ _ (a .highest-length ∙ sym (b .highest-length))
-              (λ i h.
-              let h′ : i < slots r = omega (arith, h, a .highest-length) in
-              ≤ℤ-antisym (higher o p n m a b i h′) (higher p o m n b a i h′));
+              (λ i bound.
+              let bound′ : i < slots r = omega (arith, bound, a .highest-length) in
+              ≤ℤ-antisym (higher o p n m a b i bound′) (higher p o m n b a i bound′));
         }
 
 pub alike : (r : Request) (o p : Outcome) → Keeps r o → Keeps r p → Alike o p
-alike r o p k l = by (o .answer) (p .answer) refl refl k l
+alike r o p kept kept′ = by (o .answer) (p .answer) refl refl kept kept′
   where
     by : (a b : Answer Result) → o .answer ≡ a → p .answer ≡ b → Answers r a o → Answers r b p → Alike o p
-    by (refuses f) (refuses g) e d (x, u) (y, v) = unaltered (e ∙ ap refuses (Option·some-injective _ _ (sym x ∙ y)) ∙ sym d) u v
+    by (refuses f) (refuses g) e d (x, u) (y, v) =
+        unaltered (e ∙ ap refuses (Option·some-injective _ _ (sym x ∙ y)) ∙ sym d) u v
     by (refuses f) (gives no-plan) e d (x, u) (y, none, v) = absurd (Option·some-ne-none _ (sym x ∙ y))
     by (refuses f) (gives (planned n)) e d (x, u) (y, q) = absurd (Option·some-ne-none _ (sym x ∙ y))
     by (gives no-plan) (refuses g) e d (x, none, u) (y, v) = absurd (Option·some-ne-none _ (sym y ∙ x))
     by (gives no-plan) (gives no-plan) e d (x, none, u) (y, _, v) = unaltered (e ∙ sym d) u v
-    by (gives no-plan) (gives (planned n)) e d (x, none, u) (y, q) = let (ms, plan, _) = q .windows .least .met in absurd (none ms plan)
+    by (gives no-plan) (gives (planned n)) e d (x, none, u) (y, q) =
+        let (ms, plan, _) = q .windows .least .met in
+        absurd (none ms plan)
     by (gives (planned n)) (refuses g) e d (x, q) (y, v) = absurd (Option·some-ne-none _ (sym y ∙ x))
-    by (gives (planned n)) (gives no-plan) e d (x, q) (y, none, v) = let (ms, plan, _) = q .windows .least .met in absurd (none ms plan)
+    by (gives (planned n)) (gives no-plan) e d (x, q) (y, none, v) =
+        let (ms, plan, _) = q .windows .least .met in
+        absurd (none ms plan)
     by (gives (planned n)) (gives (planned m)) e d (x, q) (y, s) = both-planned r o p n m e d q s

@@ -6,22 +6,23 @@ use mathlib.Core.Path.{_≡_, refl, ap, subst}
 use borrow.Author.Tests.{leb-true}
 use lib.Dec.{leb}
 use lib.ListN.{getD, drop}
-use Rattle.rule.proofs.Ranges.{by-classes}
-use Rattle.facts.proofs.Rules.{both}
-use Rattle.requests.proofs.Keeping.{keeps}
-use Rattle.requests.proofs.Requests.{formed}
+use Rattle.rule.proofs.Ranges.{legalFor-iff-classes}
+use Rattle.facts.proofs.Tests.{and-true→both}
+use Rattle.requests.proofs.SolutionKeeps.{solution-keeps}
+use Rattle.requests.proofs.Formed.{formed-iff}
 use Rattle.requests.specs.Best.{best, fewest}
 use Rattle.requests.specs.Cases.{Case, cases, Kept}
 use Rattle.requests.specs.Promise.{Outcome, Keeps}
-use Rattle.requests.specs.Request.{Request, ranges, requestRefusal, refused, crossed, WellFormed, PlanOf}
-use Rattle.requests.specs.Solution.{classes, possible, loss, outcome}
+use Rattle.requests.specs.Request.{Request, ranges, requestRefusal, filterRefusal, crossed, WellFormed, PlanOf}
+use Rattle.requests.specs.Solution.{classes, possible, loss, solution}
 use Rattle.rule.specs.Ranges.{classOf, allows}
 use Rattle.refusals.specs.Table.{row, first}
 use Rattle.settings.specs.Refusals.{wrongSlots, differs, wrongLength, wrongBridges, wrongCounts}
 use Rattle.settings.specs.Refusals.{lengthsRefusal, shapeRefusal, settingsRefusal, refusal}
-use Rattle.rule.specs.Rule.{over, goesWith, agrees, follows, ordered, rest, drawn, count, keeps as Rule·keeps, every, legalBy, windows, covered}
+use Rattle.rule.specs.Rule.{over, goesWith, agrees, follows, ordered, rest, drawn, countIf, keeps as Rule·keeps, every}
+use Rattle.rule.specs.Rule.{legalBy, windows, covered}
 
--- marks that are a plan of the request, where there is one
+-- whether the marks are a plan of the request, if it has one
 unfoldable fitting : Request → List ℕ → Bool
 fitting r ms =
     let s = r .settings in
@@ -34,17 +35,17 @@ fitting→plan : (r : Request) (ms : List ℕ) → fitting r ms ≡ true →
 unfolding fitting
 fitting→plan r ms e w p =
     let s = r .settings in
-    let (in-rule, fit) = both (legalBy allows (s .shape) (classes r) ms) _ (rw p at e) in
-    let (few, short) = both (leb (windows ms) (s .windows .most)) (leb (covered ms) (s .covered .most)) fit in
+    let (in-rule, fit) = and-true→both (legalBy allows (s .shape) (classes r) ms) _ (rw p at e) in
+    let (few, short) = and-true→both (leb (windows ms) (s .windows .most)) (leb (covered ms) (s .covered .most)) fit in
     record {
-      in-rule = by-classes (s .k) (s .shape) (ranges r) ms (formed .0 w .proper) .1 in-rule;
+      in-rule = legalFor-iff-classes (s .k) (s .shape) (ranges r) ms (formed-iff .0 w .proper) .1 in-rule;
       windows-fit = leb-true _ _ few;
       covered-fit = leb-true _ _ short;
     }
 
--- what is computed, and what is stated
+-- what is computed for a case, and what the case states
 abbrev computed : Case → Outcome × Bool
-computed c = (outcome (c .request) (c .outcome .marks), fitting (c .request) (c .outcome .marks))
+computed c = (solution (c .request) (c .outcome .marks), fitting (c .request) (c .outcome .marks))
 
 abbrev stated : Case → Outcome × Bool
 stated c = (c .outcome, true)
@@ -54,10 +55,13 @@ each [] e = tt
 each (c ∷ cs) e =
     let here : computed c ≡ stated c = ap (λ l. getD l 0 (stated c)) e in (
       subst (Keeps (c .request)) (ap (λ p. p .0) here)
-          (keeps (c .request) (c .outcome .marks) (fitting→plan (c .request) (c .outcome .marks) (ap (λ p. p .1) here))),
+          (solution-keeps (c .request) (c .outcome .marks)
+          (fitting→plan (c .request) (c .outcome .marks) (ap (λ p. p .1) here))),
       each cs (ap (drop 1) e),
     )
 
 pub all-kept : Kept cases
-unfolding cases outcome refused requestRefusal crossed refusal lengthsRefusal shapeRefusal settingsRefusal first row wrongSlots differs wrongLength wrongBridges wrongCounts possible loss fewest best classOf allows over goesWith fitting legalBy agrees follows ordered rest drawn count every windows covered Rule·keeps
+unfolding cases solution filterRefusal requestRefusal crossed refusal lengthsRefusal shapeRefusal settingsRefusal first
+    row wrongSlots differs wrongLength wrongBridges wrongCounts possible loss fewest best classOf allows over goesWith
+    fitting legalBy agrees follows ordered rest drawn countIf every windows covered Rule·keeps
 all-kept = each cases refl

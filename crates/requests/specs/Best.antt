@@ -1,8 +1,9 @@
--- Least covered counts by recursion on the slots. The functions of the crate least promise them; the filter's promise does not rest
--- on them (proofs/Exact.antt has the two theorems that say what they are).
+-- Least covered counts, by recursion on the slots. The functions of the crate `least` promise to give them; the
+-- filter's promise does not rest on them. Two theorems say what they are: `best-le-covered` and `best-met` in
+-- proofs/BestIsLeast.antt.
 --
--- A slot is given by its class. A len of 0 counts as 1: a window has a first slot and at most len - 1 more, with at most h
--- bridges. T stands for "no plan": counts are capped there.
+-- A slot is given by its class. A len of 0 counts as 1: a window has a first slot and at most len - 1 more, with at
+-- most h bridges. T stands for "no plan": counts are capped at T.
 use Prim.Native.Nat.{ℕ, zero, suc, _-_, _≤_, min}
 use mathlib.Core.Bool.{true, cond}
 use mathlib.Core.List.{List, [], _∷_}
@@ -18,39 +19,43 @@ pub record Fits (shape : Shape) (cs : List Class) (w c : ℕ) (ms : List ℕ) : 
   pub few : windows ms ≤ w
   pub short : covered ms ≤ c
 
--- one of n is used up, or there is none to use
-abbrev pub spend : (T n : ℕ) → (ℕ → ℕ) → ℕ
-spend T zero f = T
-spend T (suc n) f = f n
+-- one of n is used, and f is given how many are left; if n is 0, there is no plan
+abbrev pub usingOne : (T n : ℕ) → (ℕ → ℕ) → ℕ
+usingOne T zero f = T
+usingOne T (suc n) f = f n
 
--- one more slot is covered
-abbrev pub dearer : (T c : ℕ) → ℕ
-dearer T c = min T (suc c)
+-- one more slot is covered, with the count capped at T
+abbrev pub saturatingSuc : (T c : ℕ) → ℕ
+saturatingSuc T c = min T (suc c)
 
 module _ (T : ℕ) (shape : Shape) where
-  -- best: the least covered count with at most w windows. A slot that may be uncovered is left so, any other opens a window.
-  -- onward: the same in a window with r slots and b bridges left, which goes on with the next slot. A slot that may be over is
-  -- taken as over, and behind it the window closes or goes on; any other is a bridge.
+  -- `best`: the least covered count with at most w windows. A slot that may be uncovered is left uncovered; any other
+  -- opens a window.
+  -- `bestInside`: the same in a window that has r slots and b bridges left and continues with the next slot. A slot
+  -- that may be over is taken as over, and after it the window closes or continues; any other is a bridge.
   unfoldable mutual
     pub best : List Class → (w : ℕ) → ℕ
     best [] w = 0
     best (c ∷ cs) w =
-        cond (allows c 0) (best cs w) (dearer T (spend T w λ w. min (best cs w) (onward cs (shape .len - 1) (shape .h) w)))
+        cond (allows c 0) (best cs w)
+        (saturatingSuc T (usingOne T w λ w. min (best cs w) (bestInside cs (shape .len - 1) (shape .h) w)))
 
-    pub onward : List Class → (r b w : ℕ) → ℕ
-    onward [] r b w = T
-    onward (c ∷ cs) r b w =
-        dearer T (spend T r λ r. cond (allows c 2) (min (best cs w) (onward cs r b w)) (spend T b λ b. onward cs r b w))
+    pub bestInside : List Class → (r b w : ℕ) → ℕ
+    bestInside [] r b w = T
+    bestInside (c ∷ cs) r b w =
+        saturatingSuc T
+        (usingOne T r λ r.
+        cond (allows c 2) (min (best cs w) (bestInside cs r b w)) (usingOne T b λ b. bestInside cs r b w))
 
-  -- what comes after a window that has closed. It is a definition of its own, though it is `best`, which is what a row holds
-  abbrev pub beyond : List Class → (w : ℕ) → ℕ
-  beyond cs w = best cs w
+  -- The same after a window that has closed. It equals `best`, which a row holds, but is a definition of its own.
+  abbrev pub bestAfter : List Class → (w : ℕ) → ℕ
+  bestAfter cs w = best cs w
 
-  -- behind an over slot of a window: it closes or goes on
-  abbrev pub after : List Class → (r b w : ℕ) → ℕ
-  after cs r b w = min (beyond cs w) (onward cs r b w)
+  -- the same after an over slot of a window, where the window closes or continues
+  abbrev pub bestClosable : List Class → (r b w : ℕ) → ℕ
+  bestClosable cs r b w = min (bestAfter cs w) (bestInside cs r b w)
 
-  -- the first of the window counts from w to w + d with which at most c slots are covered, or else w + d
+  -- the first of the window counts from w to w + d for which `best` is at most c, or w + d if there is none
   unfoldable pub fewest : List Class → (c w d : ℕ) → ℕ
   fewest cs c w zero = w
   fewest cs c w (suc d) = cond (leb (best cs w) c) w (fewest cs c (suc w) d)

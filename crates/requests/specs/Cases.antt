@@ -1,6 +1,6 @@
--- The starred cases of document 01 ("Station plans worked by hand"), each with what the filter has to hand back: one list, and the
--- claim that every outcome in it keeps the promise (proved in proofs/Cases.antt). Which plan is handed back is left open; here
--- stands one for each.
+-- The starred cases of document 01 ("Station plans worked by hand"), each with what the filter has to hand back: one
+-- list, and the claim that every outcome in it keeps the promise (proved in proofs/Cases.antt). The promise leaves open
+-- which plan is handed back; each case states one.
 use Prim.Native.Nat.{ℕ}
 use mathlib.Core.List.{List, [], _∷_, map}
 use lib.IntN.{ℤ, pos, negsuc}
@@ -24,14 +24,14 @@ least ‥ most = record { least = least; most = most }
 abbrev settings : (k : ℤ) (len h : ℕ) (windows covered : CountRange) → Settings
 settings k len h windows covered = record { k = k; shape = shaped len h; windows = windows; covered = covered }
 
--- k = 0 and h = 0
-abbrev asked : (len : ℕ) (windows covered : CountRange) → Settings
-asked len windows covered = settings (pos 0) len 0 windows covered
+-- settings with k = 0 and h = 0
+abbrev plainSettings : (len : ℕ) (windows covered : CountRange) → Settings
+plainSettings len windows covered = settings (pos 0) len 0 windows covered
 
 abbrev pub loads : List ℕ → List ℤ
 loads = map pos
 
--- what the mark slice holds before
+-- what the slice of marks holds before the call
 abbrev before : List ℤ → List ℕ
 before lowest = replicate (length lowest) 9
 
@@ -48,20 +48,26 @@ noPlan s lowest highest =
 abbrev pub counts : (windows covered : CountRange) → PlanCounts
 counts windows covered = record { windows = windows; covered = covered }
 
--- planned with both count ranges, the narrowed ranges and a plan
+-- a case answered "planned", with both count ranges, the narrowed load ranges and a plan
 abbrev cut : Settings → (lowest highest : List ℤ) → (windows covered : CountRange) → (lowest′ highest′ : List ℤ) →
     (marks : List ℕ) → Case
 cut s lowest highest windows covered lowest′ highest′ marks =
     record {
       request = request s lowest highest;
-      outcome = record { answer = gives (planned (counts windows covered)); lowest = lowest′; highest = highest′; marks = marks };
+      outcome =
+          record {
+            answer = gives (planned (counts windows covered));
+            lowest = lowest′;
+            highest = highest′;
+            marks = marks;
+          };
     }
 
--- planned, and nothing is cut
+-- a case answered "planned", with no load range cut
 abbrev uncut : Settings → (lowest highest : List ℤ) → (windows covered : CountRange) → (marks : List ℕ) → Case
 uncut s lowest highest windows covered marks = cut s lowest highest windows covered lowest highest marks
 
--- the ranges of A to C, of D and E, and of F and G
+-- the load ranges of cases A to C, of D and E, and of F and G
 abbrev lowestA : List ℤ
 lowestA = pos 1 ∷ negsuc 1 ∷ pos 5 ∷ pos 0 ∷ []
 
@@ -89,40 +95,42 @@ largest = pos 2147483647
 unfoldable pub cases : List Case
 cases =
     -- A
-    cut (asked 3 (0 ‥ 1) (0 ‥ 4)) lowestA highestA (1 ‥ 1) (3 ‥ 4)
+    cut (plainSettings 3 (0 ‥ 1) (0 ‥ 4)) lowestA highestA (1 ‥ 1) (3 ‥ 4)
     (loads (1 ∷ 1 ∷ 5 ∷ 0 ∷ [])) highestA (1 ∷ 2 ∷ 2 ∷ 0 ∷ [])
     -- B
     ∷ uncut (settings (pos 0) 3 1 (0 ‥ 1) (0 ‥ 4)) lowestA highestA (1 ‥ 1) (3 ‥ 4) (1 ∷ 2 ∷ 2 ∷ 0 ∷ [])
     -- C
-    ∷ noPlan (asked 2 (0 ‥ 1) (0 ‥ 4)) lowestA highestA
+    ∷ noPlan (plainSettings 2 (0 ‥ 1) (0 ‥ 4)) lowestA highestA
     -- D
-    ∷ uncut (asked 3 (0 ‥ 2) (0 ‥ 7)) lowestD highestD (2 ‥ 2) (4 ‥ 7) (0 ∷ 0 ∷ 1 ∷ 0 ∷ 1 ∷ 2 ∷ 2 ∷ [])
+    ∷ uncut (plainSettings 3 (0 ‥ 2) (0 ‥ 7)) lowestD highestD (2 ‥ 2) (4 ‥ 7) (0 ∷ 0 ∷ 1 ∷ 0 ∷ 1 ∷ 2 ∷ 2 ∷ [])
     -- E
-    ∷ cut (asked 3 (0 ‥ 2) (0 ‥ 4)) lowestD highestD (2 ‥ 2) (4 ‥ 4)
+    ∷ cut (plainSettings 3 (0 ‥ 2) (0 ‥ 4)) lowestD highestD (2 ‥ 2) (4 ‥ 4)
     lowestD (loads (0 ∷ 0 ∷ 1 ∷ 1 ∷ 1 ∷ 1 ∷ 1 ∷ [])) (0 ∷ 0 ∷ 1 ∷ 0 ∷ 1 ∷ 2 ∷ 2 ∷ [])
     -- D with windows 0..3 and covered 0..4 ("Plausible programs that are wrong")
-    ∷ cut (asked 3 (0 ‥ 3) (0 ‥ 4)) lowestD highestD (2 ‥ 3) (3 ‥ 4)
+    ∷ cut (plainSettings 3 (0 ‥ 3) (0 ‥ 4)) lowestD highestD (2 ‥ 3) (3 ‥ 4)
     lowestD (loads (0 ∷ 1 ∷ 1 ∷ 1 ∷ 1 ∷ 1 ∷ 1 ∷ [])) (0 ∷ 0 ∷ 1 ∷ 0 ∷ 1 ∷ 0 ∷ 1 ∷ [])
     -- F
-    ∷ cut (asked 5 (0 ‥ 2) (0 ‥ 7)) lowestF highestF (2 ‥ 2) (7 ‥ 7)
-    (loads (1 ∷ 1 ∷ 1 ∷ 1 ∷ 0 ∷ 1 ∷ 1 ∷ 1 ∷ [])) (loads (1 ∷ 1 ∷ 1 ∷ 1 ∷ 0 ∷ 1 ∷ 1 ∷ 1 ∷ [])) (1 ∷ 2 ∷ 2 ∷ 2 ∷ 0 ∷ 1 ∷ 2 ∷ 2 ∷ [])
+    ∷ cut (plainSettings 5 (0 ‥ 2) (0 ‥ 7)) lowestF highestF (2 ‥ 2) (7 ‥ 7)
+    (loads (1 ∷ 1 ∷ 1 ∷ 1 ∷ 0 ∷ 1 ∷ 1 ∷ 1 ∷ [])) (loads (1 ∷ 1 ∷ 1 ∷ 1 ∷ 0 ∷ 1 ∷ 1 ∷ 1 ∷ []))
+    (1 ∷ 2 ∷ 2 ∷ 2 ∷ 0 ∷ 1 ∷ 2 ∷ 2 ∷ [])
     -- G: one plan has 2 windows, another covers 5 slots
-    ∷ uncut (asked 5 (0 ‥ 4) (0 ‥ 8)) lowestF highestF (2 ‥ 4) (5 ‥ 8) (1 ∷ 2 ∷ 2 ∷ 2 ∷ 0 ∷ 1 ∷ 2 ∷ 2 ∷ [])
-    -- none does both
-    ∷ noPlan (asked 5 (0 ‥ 2) (0 ‥ 5)) lowestF highestF
+    ∷ uncut (plainSettings 5 (0 ‥ 4) (0 ‥ 8)) lowestF highestF (2 ‥ 4) (5 ‥ 8) (1 ∷ 2 ∷ 2 ∷ 2 ∷ 0 ∷ 1 ∷ 2 ∷ 2 ∷ [])
+    -- no plan does both
+    ∷ noPlan (plainSettings 5 (0 ‥ 2) (0 ‥ 5)) lowestF highestF
     -- H
-    ∷ uncut (asked 1 (0 ‥ 1) (0 ‥ 1)) (loads (0 ∷ [])) (loads (0 ∷ [])) (0 ‥ 1) (0 ‥ 1) (0 ∷ [])
-    ∷ noPlan (asked 1 (0 ‥ 0) (0 ‥ 1)) (loads (1 ∷ [])) (loads (1 ∷ []))
+    ∷ uncut (plainSettings 1 (0 ‥ 1) (0 ‥ 1)) (loads (0 ∷ [])) (loads (0 ∷ [])) (0 ‥ 1) (0 ‥ 1) (0 ∷ [])
+    ∷ noPlan (plainSettings 1 (0 ‥ 0) (0 ‥ 1)) (loads (1 ∷ [])) (loads (1 ∷ []))
     -- I
-    ∷ uncut (settings largest 1 0 (0 ‥ 0) (0 ‥ 2)) (largest ∷ largest ∷ []) (largest ∷ largest ∷ []) (0 ‥ 0) (0 ‥ 2) (0 ∷ 0 ∷ [])
+    ∷ uncut (settings largest 1 0 (0 ‥ 0) (0 ‥ 2)) (largest ∷ largest ∷ []) (largest ∷ largest ∷ []) (0 ‥ 0)
+    (0 ‥ 2) (0 ∷ 0 ∷ [])
     -- J
-    ∷ uncut (asked 3 (0 ‥ 7) (0 ‥ 7)) highestD highestD (3 ‥ 7) (7 ‥ 7) (1 ∷ 2 ∷ 2 ∷ 1 ∷ 2 ∷ 2 ∷ 1 ∷ [])
+    ∷ uncut (plainSettings 3 (0 ‥ 7) (0 ‥ 7)) highestD highestD (3 ‥ 7) (7 ‥ 7) (1 ∷ 2 ∷ 2 ∷ 1 ∷ 2 ∷ 2 ∷ 1 ∷ [])
     -- loads 5, 1, 5 need one window at k = 0 and two at k = 1 ("Plausible programs that are wrong")
-    ∷ uncut (asked 3 (0 ‥ 3) (0 ‥ 3)) loads515 loads515 (1 ‥ 3) (3 ‥ 3) (1 ∷ 2 ∷ 2 ∷ [])
+    ∷ uncut (plainSettings 3 (0 ‥ 3) (0 ‥ 3)) loads515 loads515 (1 ‥ 3) (3 ‥ 3) (1 ∷ 2 ∷ 2 ∷ [])
     ∷ uncut (settings (pos 1) 3 0 (0 ‥ 3) (0 ‥ 3)) loads515 loads515 (2 ‥ 3) (2 ‥ 3) (1 ∷ 0 ∷ 1 ∷ [])
     ∷ []
 
--- the claim: each of these outcomes keeps the promise
+-- the claim: the outcome of each case keeps the promise
 abbrev pub Kept : List Case → Type 0
 Kept [] = Unit
 Kept (c ∷ cs) = Keeps (c .request) (c .outcome) × Kept cs

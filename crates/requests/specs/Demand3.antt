@@ -1,5 +1,5 @@
--- Demand 3, of the definitions and of what is handed back (document 01, "Words of demand 3"): the record Demand3 at the end, proved
--- in proofs/Demand3.antt.
+-- Demand 3, stated of the definitions and of what is handed back (document 01, "Words of demand 3"): the record
+-- `Demand3` at the end, proved in proofs/Demand3.antt.
 use Prim.Native.Nat.{ℕ, suc, _≤_, _<_}
 use mathlib.Core.List.{List}
 use mathlib.Core.Logic.{_↔_}
@@ -13,31 +13,32 @@ use Rattle.requests.specs.Request.{Request, slots, at, thresholdAt, Well
 use Rattle.requests.specs.Request.{LeastWindows, LeastCovered, Open, settledUnder, settledOver}
 use Rattle.requests.specs.declared.PlanCounts.{PlanCounts}
 
--- a count range with its maximum no smaller and its minimum no larger
+-- one count range is wider than another: its maximum is no smaller and its minimum no larger
 pub record Wider (wide narrow : CountRange) : Type 0 where
   pub most : narrow .most ≤ wide .most
   pub least : wide .least ≤ narrow .least
 
--- Of two requests with equal threshold and slot count, l is looser than t: its load ranges contain the other's, its window length,
--- bridge allowance and both maximums are no smaller, and its minimums no larger.
+-- Of two requests with equal threshold and slot count, l is looser than t: its load ranges contain the other's, its
+-- window length, bridge allowance and both maximums are no smaller, and its minimums are no larger.
 pub record Looser (l t : Request) : Type 0 where
   pub threshold : (i : ℕ) → thresholdAt l i ≡ thresholdAt t i
   pub as-many : slots l ≡ slots t
-  pub contains : (i : ℕ) → i < slots t → (at (l .lowest) i ≤ℤ at (t .lowest) i) × (at (t .highest) i ≤ℤ at (l .highest) i)
+  pub contains : (i : ℕ) → i < slots t → (at (l .lowest) i ≤ℤ at (t .lowest) i)
+      × (at (t .highest) i ≤ℤ at (l .highest) i)
   pub shape : LooserShape (l .settings .shape) (t .settings .shape)
   pub windows : Wider (l .settings .windows) (t .settings .windows)
   pub covered : Wider (l .settings .covered) (t .settings .covered)
 
--- Each plan of t is a plan of l, each load left to t is left to l at the same slot, and where t has a least count, l has one
--- that is no higher.
+-- Each plan of t is a plan of l, each load left to t is left to l at the same slot, and where t has a least count, l
+-- has one that is no higher.
 pub record Loosens (t l : Request) : Type 0 where
   pub plans : (ms : List ℕ) → PlanOf t ms → PlanOf l ms
   pub loads : (i : ℕ) (x : ℤ) → LeftAt t i x → LeftAt l i x
   pub windows : (v : ℕ) → LeastWindows t v → (w : ℕ) × LeastWindows l w × (w ≤ v)
   pub covered : (v : ℕ) → LeastCovered t v → (w : ℕ) × LeastCovered l w × (w ≤ v)
 
--- The same of what is handed back: if t gets "planned", so does l, each load in a narrowed range of the first is in that slot's
--- narrowed range of the second, and neither minimum of the second is higher.
+-- The same of what is handed back: if t gets "planned", so does l; each load in a narrowed range of the first outcome
+-- is in that slot's narrowed range of the second; and neither minimum of the second is higher.
 pub record LoosensAnswer (t : Request) (first second : Outcome) (n : PlanCounts) : Type 0 where
   pub counts : PlanCounts
   pub answer : Says second counts
@@ -49,8 +50,8 @@ pub record LoosensAnswer (t : Request) (first second : Outcome) (n : PlanCounts)
 abbrev pub LeastUnlimited : Request → ℕ → Type 0
 LeastUnlimited r = LeastOver (UnlimitedPlanOf r) windows
 
--- One slot of r is settled, which leaves it well formed: if a plan exists, one exists still, and the least window count
--- is at most one higher.
+-- One slot of r is settled, which leaves it well formed. With the window maximum ignored: if a plan exists, one still
+-- exists, and the least window count is at most one higher.
 pub record Settles (r settled : Request) : Type 0 where
   pub well : WellFormed settled
   pub plan : (ms : List ℕ) → UnlimitedPlanOf r ms → (ms′ : List ℕ) × UnlimitedPlanOf settled ms′
@@ -71,15 +72,16 @@ unlimited r =
       marks = r .marks;
     }
 
--- Given the window range 0 to n, which leaves r well formed, the answer is "planned" if such a plan exists, with that
--- least window count as its window minimum, and "no plan" if there is none.
-pub record Counts (r : Request) (o : Outcome) : Type 0 where
+-- With the window range 0 to n, which leaves r well formed, the answer is "planned" if r has a plan with the window
+-- maximum ignored, and the window minimum is then the least window count of such plans. The answer is "no plan" if
+-- there is none.
+pub record CountsUnlimited (r : Request) (o : Outcome) : Type 0 where
   pub well : WellFormed (unlimited r)
   pub some : (ms : List ℕ) → UnlimitedPlanOf r ms → SaysPlanned o
   pub number : (n : PlanCounts) → Says o n → LeastUnlimited r (n .windows .least)
   pub none : SaysNoPlan o ↔ ((ms : List ℕ) → UnlimitedPlanOf r ms → ⊥)
 
--- The rule of this answer: settled stays "planned", with a window minimum at most one higher.
+-- The same of the answers: after settling, "planned" stays "planned", with a window minimum at most one higher.
 pub record SettlesAnswer (before after : Outcome) : Type 0 where
   pub answer : (n : PlanCounts) → Says before n →
       (m : PlanCounts) × Says after m × (m .windows .least ≤ suc (n .windows .least))
@@ -89,14 +91,15 @@ pub record Demand3 : Type 0 where
   pub loosening : (t l : Request) → WellFormed t → WellFormed l → Looser l t → Loosens t l
   pub loosening-answers : (t l : Request) → WellFormed t → WellFormed l → Looser l t → (first second : Outcome) →
       Keeps t first → Keeps l second → (n : PlanCounts) → Says first n → LoosensAnswer t first second n
-  -- a request with a plan has both least counts, and with the window maximum ignored the one
+  -- a request with a plan has both least counts and, with the window maximum ignored, a least window count
   pub least-windows : (r : Request) → WellFormed r → (ms : List ℕ) → PlanOf r ms → (v : ℕ) × LeastWindows r v
   pub least-covered : (r : Request) → WellFormed r → (ms : List ℕ) → PlanOf r ms → (v : ℕ) × LeastCovered r v
-  pub least-unlimited : (r : Request) → WellFormed r → (ms : List ℕ) → UnlimitedPlanOf r ms → (v : ℕ) × LeastUnlimited r v
+  pub least-unlimited : (r : Request) → WellFormed r → (ms : List ℕ) → UnlimitedPlanOf r ms →
+      (v : ℕ) × LeastUnlimited r v
   -- settling one open slot costs at most one more window
   pub settling-under : (r : Request) → WellFormed r → (i : ℕ) → Open r i → Settles r (settledUnder r i)
   pub settling-over : (r : Request) → WellFormed r → (i : ℕ) → Open r i → Settles r (settledOver r i)
-  pub counting : (r : Request) → WellFormed r → (o : Outcome) → Keeps (unlimited r) o → Counts r o
+  pub counting : (r : Request) → WellFormed r → (o : Outcome) → Keeps (unlimited r) o → CountsUnlimited r o
   pub settling-answers-under : (r : Request) → WellFormed r → (i : ℕ) → Open r i → (before after : Outcome) →
       Keeps (unlimited r) before → Keeps (unlimited (settledUnder r i)) after → SettlesAnswer before after
   pub settling-answers-over : (r : Request) → WellFormed r → (i : ℕ) → Open r i → (before after : Outcome) →

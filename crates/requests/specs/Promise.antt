@@ -15,22 +15,23 @@ use Rattle.rule.specs.declared.Range.{Range}
 use Rattle.rule.specs.Rule.{windows, covered, LeastOver}
 use Rattle.settings.specs.declared.CountRange.{CountRange}
 use Rattle.settings.specs.declared.Settings.{Settings}
-use Rattle.requests.specs.Request.{Request, slots, paired, at, thresholdAt, refused, WellFormed, PlanOf, LeftAt}
+use Rattle.requests.specs.Request.{Request, slots, paired, at, thresholdAt, filterRefusal, WellFormed, PlanOf}
+use Rattle.requests.specs.Request.{LeftAt}
 use Rattle.requests.specs.declared.PlanCounts.{PlanCounts}
 
--- what is said of a request that is not refused
+-- the result for a request that is not refused
 pub data Result : Type 0 where
   no-plan : Result
   planned : PlanCounts → Result
 
--- all that comes back: the answer, and what the three slices hold then
+-- all that comes back: the answer, and what the three slices hold afterwards
 pub record Outcome : Type 0 where
   pub answer : Answer Result
   pub lowest : List ℤ
   pub highest : List ℤ
   pub marks : List ℕ
 
--- the answer is "planned", with these counts; and with some
+-- the answer is "planned" with these counts; the answer is "planned" with some counts
 abbrev pub Says : Outcome → PlanCounts → Type 0
 Says o n = o .answer ≡ gives (planned n)
 
@@ -40,7 +41,7 @@ SaysPlanned o = (n : PlanCounts) × Says o n
 abbrev pub SaysNoPlan : Outcome → Type 0
 SaysNoPlan o = o .answer ≡ gives no-plan
 
--- load x is in the range that slot i holds then
+-- load x is in the range that comes back for slot i
 abbrev pub Held : Outcome → (i : ℕ) (x : ℤ) → Type 0
 Held o i x = (at (o .lowest) i ≤ℤ x) × (x ≤ℤ at (o .highest) i)
 
@@ -56,8 +57,8 @@ pub record Raised (r : Request) (count : List ℕ → ℕ) (given raised : Count
   pub minimum : raised .least ≡ max (given .least) value
   pub maximum : raised .most ≡ given .most
 
--- what a slot loses: its under part, where its lowest load becomes k + 1 if that is larger; its over part, where its highest load
--- becomes k if that is smaller; or nothing
+-- what a slot loses: its under part, so that its lowest load becomes k + 1 if that is larger; its over part, so that
+-- its highest load becomes k if that is smaller; or nothing
 pub data Loss : Type 0 where
   nothing : Loss
   under-part : Loss
@@ -73,7 +74,7 @@ highestAfter k nothing hi = hi
 highestAfter k under-part hi = hi
 highestAfter k over-part hi = cond (ltZ k hi) k hi
 
--- slot i holds the narrowed range: it has lost a part or nothing, and what is in it is what is left
+-- slot i has its narrowed range: it has lost a part or nothing, and the loads in it are those left to the request
 pub record Narrowed (r : Request) (o : Outcome) (i : ℕ) : Type 0 where
   pub loss : Loss
   pub low : at (o .lowest) i ≡ lowestAfter (thresholdAt r i) loss (at (r .lowest) i)
@@ -98,17 +99,17 @@ pub record Planned (r : Request) (n : PlanCounts) (o : Outcome) : Type 0 where
 abbrev pub NoPlan : Request → Type 0
 NoPlan r = (ms : List ℕ) → PlanOf r ms → ⊥
 
--- neither a refusal nor "no plan" alters a lent slice
+-- what is promised with each answer; neither a refusal nor "no plan" alters a lent slice
 abbrev pub Answers : Request → Answer Result → Outcome → Type 0
-Answers r (refuses f) o = (refused r ≡ some f) × Unaltered r o
+Answers r (refuses f) o = (filterRefusal r ≡ some f) × Unaltered r o
 Answers r (gives no-plan) o = WellFormed r × NoPlan r × Unaltered r o
 Answers r (gives (planned n)) o = WellFormed r × Planned r n o
 
 abbrev pub Keeps : Request → Outcome → Type 0
 Keeps r o = Answers r (o .answer) o
 
--- Two outcomes that keep the promise for one request are alike (proofs/Alike.antt): which plan is handed back is all that it leaves
--- open.
+-- Two outcomes that keep the promise for one request are alike (proofs/Alike.antt): the promise leaves open only which
+-- plan is handed back.
 pub record Alike (o p : Outcome) : Type 0 where
   pub answer : o .answer ≡ p .answer
   pub lowest : o .lowest ≡ p .lowest

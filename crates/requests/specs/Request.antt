@@ -1,4 +1,4 @@
--- A request and its words (document 01, "Words of demand 3").
+-- A request and the words for what belongs to it (document 01, "Words of demand 3").
 use Prim.Native.Nat.{ℕ, suc, _≤_, _<_, min}
 use mathlib.Core.Bool.{Bool, true, cond, _||_}
 use mathlib.Core.List.{List, [], _∷_}
@@ -16,17 +16,17 @@ use Rattle.settings.specs.Refusals.{differs, refusal}
 use Rattle.rule.specs.Rule.{legal, windows, covered, LeastOver}
 use Rattle.settings.specs.declared.Settings.{Settings}
 
--- what the filter is given: the settings and what the three lent slices hold. What the marks hold plays no part
+-- What the filter is given: the settings and what the three lent slices hold. What the marks hold plays no part.
 pub record Request : Type 0 where
   pub settings : Settings
   pub lowest : List ℤ
   pub highest : List ℤ
   pub marks : List ℕ
 
-abbrev pub asked : Settings → (lowest highest : List ℤ) (marks : List ℕ) → Request
-asked s los his ms = record { settings = s; lowest = los; highest = his; marks = ms }
+abbrev pub requestOf : Settings → (lowest highest : List ℤ) (marks : List ℕ) → Request
+requestOf s los his ms = record { settings = s; lowest = los; highest = his; marks = ms }
 
--- the number of slots, the load ranges, and the two ends of slot i's
+-- the number of slots, the load ranges, and what a list of loads has at slot i
 abbrev pub slots : Request → ℕ
 slots r = length (r .lowest)
 
@@ -41,16 +41,18 @@ ranges r = paired (r .lowest) (r .highest)
 abbrev pub at : List ℤ → ℕ → ℤ
 at loads i = getD loads i (pos 0)
 
--- the threshold at slot i, the same at each
+-- the threshold at slot i, the same at each slot
 abbrev pub thresholdAt : Request → (i : ℕ) → ℤ
 thresholdAt r i = r .settings .k
 
--- 31: the first slot, counted from i, with its lowest load above its highest ("Where each refusal is checked")
+-- refusal 31, of the first slot with its lowest load above its highest; the slots are numbered from i
+-- ("Where each refusal is checked")
 unfoldable pub crossed : (i : ℕ) → List Range → Option Refusal
 crossed i [] = none
 crossed i (r ∷ rs) = cond (ltZ (r .highest) (r .lowest)) (some (Crossed i)) (crossed (suc i) rs)
 
--- lengths and settings (21 to 26), then the slots (31); `different` says whether a slice beside the loads' has another length
+-- The refusals of lengths and settings (21 to 26), then that of the slots (31). `different` says whether a slice other
+-- than the two of the loads has another length.
 unfoldable pub requestRefusal : Settings → (lowest highest : List ℤ) (different : Bool) → Option Refusal
 requestRefusal s los his different =
     first
@@ -58,34 +60,34 @@ requestRefusal s los his different =
     ∷ crossed 0 (paired los his)
     ∷ [])
 
-unfoldable pub refused : Request → Option Refusal
-refused r = requestRefusal (r .settings) (r .lowest) (r .highest) (differs (slots r) (length (r .marks)))
+unfoldable pub filterRefusal : Request → Option Refusal
+filterRefusal r = requestRefusal (r .settings) (r .lowest) (r .highest) (differs (slots r) (length (r .marks)))
 
 -- well formed: the filter gives no refusal
 abbrev pub WellFormed : Request → Type 0
-WellFormed r = refused r ≡ none
+WellFormed r = filterRefusal r ≡ none
 
--- marks that are legal for given loads, and for its ranges
+-- marks that are legal for given loads, and marks that are legal for the request's ranges
 abbrev pub LegalWith : Request → List ℤ → List ℕ → Type 0
 LegalWith r loads ms = legal (r .settings .k) (r .settings .shape) loads ms ≡ true
 
 abbrev pub LegalIn : Request → List ℕ → Type 0
 LegalIn r ms = LegalFor (r .settings .k) (r .settings .shape) (ranges r) ms
 
--- its plans: the marks legal for its ranges whose window and covered counts are at most its maximums; the given minimums take no
--- part
+-- the plans of a request: the marks legal for its ranges whose window and covered counts are at most its maximums; the
+-- given minimums play no part
 pub record PlanOf (r : Request) (ms : List ℕ) : Type 0 where
   pub in-rule : LegalIn r ms
   pub windows-fit : windows ms ≤ r .settings .windows .most
   pub covered-fit : covered ms ≤ r .settings .covered .most
 
--- with the window maximum ignored, the plans are all marks that are legal for the ranges and cover at most the covered maximum
+-- with the window maximum ignored, the plans are all marks that are legal for the ranges and within the covered maximum
 pub record UnlimitedPlanOf (r : Request) (ms : List ℕ) : Type 0 where
   pub in-rule : LegalIn r ms
   pub covered-fit : covered ms ≤ r .settings .covered .most
 
--- the loads left to it at slot i: those that occur there in some choice of loads in the ranges for which one of its plans is
--- legal
+-- the loads left to a request at slot i: those that occur there in some choice of loads in the ranges for which one of
+-- its plans is legal
 pub record LeftAt (r : Request) (i : ℕ) (x : ℤ) : Type 0 where
   pub loads : List ℤ
   pub marks : List ℕ
@@ -95,7 +97,7 @@ pub record LeftAt (r : Request) (i : ℕ) (x : ℤ) : Type 0 where
   pub there : i < length loads
   pub occurs : at loads i ≡ x
 
--- its two least counts are the least over its plans, each taken by itself
+-- the two least counts of a request: each is the least over its plans, taken by itself
 abbrev pub LeastWindows : Request → ℕ → Type 0
 LeastWindows r = LeastOver (PlanOf r) windows
 
@@ -108,12 +110,17 @@ pub record Open (r : Request) (i : ℕ) : Type 0 where
   pub low : at (r .lowest) i ≤ℤ thresholdAt r i
   pub high : thresholdAt r i <ℤ at (r .highest) i
 
--- settling it under makes its highest load the threshold; all else stays
+-- settling a slot under makes its highest load the threshold; all else stays
 abbrev pub settledUnder : Request → ℕ → Request
 settledUnder r i =
-    record { settings = r .settings; lowest = r .lowest; highest = set (r .highest) i (thresholdAt r i); marks = r .marks }
+    record {
+      settings = r .settings;
+      lowest = r .lowest;
+      highest = set (r .highest) i (thresholdAt r i);
+      marks = r .marks;
+    }
 
--- settling it over makes its lowest the threshold plus 1, and the covered maximum one more, or n if that is smaller
+-- settling a slot over makes its lowest load the threshold plus 1, and the covered maximum one more, or n if smaller
 abbrev oneMore : Settings → (n : ℕ) → Settings
 oneMore s n =
     record {

@@ -1,5 +1,6 @@
--- What the filter hands back for a plan of its choice, computed by `best`. The crate least and private functions of the filter
--- promise it; the filter's promise does not rest on it (proofs/Keeping.antt says that it is kept).
+-- What the filter hands back with a plan of its choice, computed by `best`. The crate `least` and private functions of
+-- the filter promise to give it; the filter's promise does not rest on it. It keeps that promise
+-- (proofs/SolutionKeeps.antt).
 use Prim.Native.Nat.{ℕ, suc, _≤_, _<_, max}
 use mathlib.Core.Bool.{Bool, true, false, cond}
 use mathlib.Core.List.{List, [], _∷_, map}
@@ -17,29 +18,29 @@ use Rattle.settings.specs.declared.Settings.{Settings}
 use Rattle.requests.specs.Best.{Fits, best, fewest}
 use Rattle.requests.specs.Promise.{Result, no-plan, planned, Outcome}
 use Rattle.requests.specs.Promise.{Loss, nothing, under-part, over-part, lowestAfter, highestAfter}
-use Rattle.requests.specs.Request.{Request, paired, refused}
+use Rattle.requests.specs.Request.{Request, paired, filterRefusal}
 
 -- the covered count that stands for "no plan"
 abbrev pub sentinel : ℕ
 sentinel = 65535
 
--- what each slot can be
+-- the class of each slot, which says what it can be
 abbrev pub classesOf : (k : ℤ) (lowest highest : List ℤ) → List Class
 classesOf k los his = map (classOf k) (paired los his)
 
 abbrev pub classes : Request → List Class
 classes r = classesOf (r .settings .k) (r .lowest) (r .highest)
 
--- the least covered count of slots of these classes, within the window maximum, where it is below the sentinel
-abbrev pub cheapest : Settings → List Class → ℕ
-cheapest s cs = best sentinel (s .shape) cs (s .windows .most)
+-- the least covered count of slots of these classes, within the window maximum, if it is below the sentinel
+abbrev pub leastCoveredCount : Settings → List Class → ℕ
+leastCoveredCount s cs = best sentinel (s .shape) cs (s .windows .most)
 
--- the least window count of such slots within both maximums, where there is a plan and the covered maximum is below the
+-- the least window count of such slots within both maximums, if there is a plan and the covered maximum is below the
 -- sentinel
-abbrev pub sparsest : Settings → List Class → ℕ
-sparsest s cs = fewest sentinel (s .shape) cs (s .covered .most) 0 (s .windows .most)
+abbrev pub leastWindowCount : Settings → List Class → ℕ
+leastWindowCount s cs = fewest sentinel (s .shape) cs (s .covered .most) 0 (s .windows .most)
 
--- the marks that are legal for slots of these classes. A len of 0 counts as 1
+-- The marks that are legal for slots of these classes. A len of 0 counts as 1.
 abbrev pub LegalMarks : Settings → List Class → List ℕ → Type 0
 LegalMarks s cs ms = legalBy allows (nonzero (s .shape)) cs ms ≡ true
 
@@ -47,24 +48,26 @@ LegalMarks s cs ms = legalBy allows (nonzero (s .shape)) cs ms ≡ true
 abbrev pub FitsAt : Settings → List Class → List ℕ → Type 0
 FitsAt s cs = Fits (s .shape) cs (s .windows .most) (s .covered .most)
 
--- What the two numbers are for all settings and classes (proofs/Least.antt).
-pub record LeastCounts (s : Settings) (cs : List Class) : Type 0 where
-  -- no legal marks within the window maximum cover fewer slots, and below the sentinel some cover as many
-  pub covers : (ms : List ℕ) → LegalMarks s cs ms → windows ms ≤ s .windows .most → cheapest s cs ≤ covered ms
-  pub covered : cheapest s cs < sentinel →
-      LeastOver (λ ms. LegalMarks s cs ms × (windows ms ≤ s .windows .most)) covered (cheapest s cs)
+-- What the two least counts are, for all settings and classes (proofs/LeastCounts.antt).
+pub record CountsAreLeast (s : Settings) (cs : List Class) : Type 0 where
+  -- no legal marks within the window maximum cover fewer slots than this count, and if it is below the sentinel, some
+  -- cover just as many
+  pub covers : (ms : List ℕ) → LegalMarks s cs ms → windows ms ≤ s .windows .most → leastCoveredCount s cs ≤ covered ms
+  pub covered : leastCoveredCount s cs < sentinel →
+      LeastOver (λ ms. LegalMarks s cs ms × (windows ms ≤ s .windows .most)) covered (leastCoveredCount s cs)
   -- with a covered maximum below the sentinel: the least window count where a plan exists, else the window maximum
   pub windows : s .covered .most < sentinel → (ms : List ℕ) → FitsAt s cs ms →
-      LeastOver (FitsAt s cs) windows (sparsest s cs)
-  pub none : s .covered .most < sentinel → ((ms : List ℕ) → FitsAt s cs ms → ⊥) → sparsest s cs ≡ s .windows .most
-  -- with any other, "no plan" counts as one, so that no window is needed
-  pub at-sentinel : sentinel ≤ s .covered .most → sparsest s cs ≡ 0
+      LeastOver (FitsAt s cs) windows (leastWindowCount s cs)
+  pub none : s .covered .most < sentinel → ((ms : List ℕ) → FitsAt s cs ms → ⊥) →
+      leastWindowCount s cs ≡ s .windows .most
+  -- with any other covered maximum "no plan" counts as a plan, so that no window is needed
+  pub at-sentinel : sentinel ≤ s .covered .most → leastWindowCount s cs ≡ 0
 
--- some plan of slots of these classes is within both maximums, where the covered maximum is below the sentinel
+-- whether slots of these classes have a plan within both maximums, if the covered maximum is below the sentinel
 unfoldable pub possible : Settings → List Class → Bool
-possible s cs = leb (cheapest s cs) (s .covered .most)
+possible s cs = leb (leastCoveredCount s cs) (s .covered .most)
 
--- what slot i loses, of class c: an open slot loses a part where no plan is left with the slot settled on that side
+-- what slot i, of class c, loses: an open slot loses a part if there is no plan with the slot on that side only
 abbrev pub lossOf : Settings → List Class → ℕ → Class → Loss
 lossOf s cs i under-only = nothing
 lossOf s cs i over-only = nothing
@@ -74,43 +77,43 @@ lossOf s cs i either =
 unfoldable pub loss : Settings → List Class → ℕ → Loss
 loss s cs i = lossOf s cs i (getD cs i under-only)
 
--- f of each slot and its load
-abbrev pub along : (ℕ → ℤ → ℤ) → List ℤ → List ℤ
-along f [] = []
-along f (x ∷ xs) = f 0 x ∷ along (λ i. f (suc i)) xs
+-- f applied to each slot's number and its load
+abbrev pub mapIndexed : (ℕ → ℤ → ℤ) → List ℤ → List ℤ
+mapIndexed f [] = []
+mapIndexed f (x ∷ xs) = f 0 x ∷ mapIndexed (λ i. f (suc i)) xs
 
 -- the ends of the ranges, without what their slots lose
 abbrev pub lowestLeft : Settings → List Class → List ℤ → List ℤ
-lowestLeft s cs = along (λ i lo. lowestAfter (s .k) (loss s cs i) lo)
+lowestLeft s cs = mapIndexed (λ i lo. lowestAfter (s .k) (loss s cs i) lo)
 
 abbrev pub highestLeft : Settings → List Class → List ℤ → List ℤ
-highestLeft s cs = along (λ i hi. highestAfter (s .k) (loss s cs i) hi)
+highestLeft s cs = mapIndexed (λ i hi. highestAfter (s .k) (loss s cs i) hi)
 
 abbrev pub raised : CountRange → ℕ → CountRange
 raised given least = record { least = max (given .least) least; most = given .most }
 
 -- the outcome where a plan is found and has these marks
-abbrev pub found : Request → List ℕ → Outcome
-found r ms =
+abbrev pub plannedOutcome : Request → List ℕ → Outcome
+plannedOutcome r ms =
     let s = r .settings in
     let cs = classes r in
     record {
       answer = gives (planned (record {
-        windows = raised (s .windows) (sparsest s cs);
-        covered = raised (s .covered) (cheapest s cs);
+        windows = raised (s .windows) (leastWindowCount s cs);
+        covered = raised (s .covered) (leastCoveredCount s cs);
       }));
       lowest = lowestLeft s cs (r .lowest);
       highest = highestLeft s cs (r .highest);
       marks = ms;
     }
 
-abbrev pub unaltered : Request → Answer Result → Outcome
-unaltered r a = record { answer = a; lowest = r .lowest; highest = r .highest; marks = r .marks }
+abbrev pub unalteredOutcome : Request → Answer Result → Outcome
+unalteredOutcome r a = record { answer = a; lowest = r .lowest; highest = r .highest; marks = r .marks }
 
-abbrev pub outcomeBy : Option Refusal → Bool → Request → List ℕ → Outcome
-outcomeBy (some f) possible r ms = unaltered r (refuses f)
-outcomeBy none false r ms = unaltered r (gives no-plan)
-outcomeBy none true r ms = found r ms
+abbrev pub solutionBy : Option Refusal → Bool → Request → List ℕ → Outcome
+solutionBy (some f) possible r ms = unalteredOutcome r (refuses f)
+solutionBy none false r ms = unalteredOutcome r (gives no-plan)
+solutionBy none true r ms = plannedOutcome r ms
 
-unfoldable pub outcome : Request → List ℕ → Outcome
-outcome r ms = outcomeBy (refused r) (possible (r .settings) (classes r)) r ms
+unfoldable pub solution : Request → List ℕ → Outcome
+solution r ms = solutionBy (filterRefusal r) (possible (r .settings) (classes r)) r ms

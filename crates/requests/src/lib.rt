@@ -1,4 +1,4 @@
-// Definitions (specs/) and theorems (proofs/), and what is said of a request's plans: no operation.
+// Definitions (specs/), theorems (proofs/), and the type of the count ranges that are handed back: no operation.
 use settings::CountRange;
 
 // The count ranges of a request that has a plan, with their minimums raised.

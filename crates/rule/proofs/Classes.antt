@@ -1,4 +1,4 @@
--- The class of a range by the sides of its ends, and which marks a class allows by which others it does.
+-- The class of a range, from whether its ends are over, and which marks a class allows, from which others it allows.
 use mathlib.Core.Bool.{true, false, true≢false}
 use mathlib.Core.Path.{_≡_, refl}
 use lib.IntN.{ℤ}
@@ -20,27 +20,27 @@ module _ (k : ℤ) (r : Range) where
   class-under low high = rw (low, high)
 
 -- a slot that may be over may open a window, and one that may be a bridge may be uncovered
-pub opens-too : (c : Class) → allows c 2 ≡ true → allows c 1 ≡ true
+pub allows-2→allows-1 : (c : Class) → allows c 2 ≡ true → allows c 1 ≡ true
 unfolding allows goesWith
-opens-too under-only e = e
-opens-too over-only e = refl
-opens-too either e = e
+allows-2→allows-1 under-only e = e
+allows-2→allows-1 over-only e = refl
+allows-2→allows-1 either e = e
 
-pub uncovers-too : (c : Class) → allows c 3 ≡ true → allows c 0 ≡ true
+pub allows-3→allows-0 : (c : Class) → allows c 3 ≡ true → allows c 0 ≡ true
 unfolding allows goesWith
-uncovers-too under-only e = refl
-uncovers-too over-only e = e
-uncovers-too either e = refl
+allows-3→allows-0 under-only e = refl
+allows-3→allows-0 over-only e = e
+allows-3→allows-0 either e = refl
 
 -- a slot that may not be uncovered may open a window, and one that may not be over may be a bridge
-pub must-be-over : (c : Class) → allows c 0 ≡ false → allows c 1 ≡ true
+pub not-allows-0→allows-1 : (c : Class) → allows c 0 ≡ false → allows c 1 ≡ true
 unfolding allows goesWith
-must-be-over under-only e = absurd (true≢false e)
-must-be-over over-only e = refl
-must-be-over either e = absurd (true≢false e)
+not-allows-0→allows-1 under-only e = absurd (true≢false e)
+not-allows-0→allows-1 over-only e = refl
+not-allows-0→allows-1 either e = absurd (true≢false e)
 
-pub must-be-under : (c : Class) → allows c 2 ≡ false → allows c 3 ≡ true
+pub not-allows-2→allows-3 : (c : Class) → allows c 2 ≡ false → allows c 3 ≡ true
 unfolding allows goesWith
-must-be-under under-only e = refl
-must-be-under over-only e = absurd (true≢false e)
-must-be-under either e = refl
+not-allows-2→allows-3 under-only e = refl
+not-allows-2→allows-3 over-only e = absurd (true≢false e)
+not-allows-2→allows-3 either e = refl

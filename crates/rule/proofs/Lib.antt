@@ -1,11 +1,11 @@
-pub mod Bytes
+pub mod MarkKinds
 pub mod Classes
-pub mod Coding
-pub mod Leasts
-pub mod Loads
-pub mod Loosening
+pub mod ClassCodes
+pub mod LeastOver
+pub mod Sides
+pub mod LooserShape
 pub mod NoWindows
-pub mod Onward
+pub mod LegalFrom
 pub mod Plan
 pub mod Ranges
 pub mod Tally

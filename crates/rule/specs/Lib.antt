@@ -1,4 +1,4 @@
-pub mod Codes
+pub mod ClassCodes
 pub mod Rule
 pub mod Ranges
-pub mod Reading
+pub mod ScanState

@@ -1,4 +1,5 @@
--- Marks that are legal for load ranges (document 01, "A plan as marks"), and the same by what each slot can be.
+-- Marks that are legal for load ranges (document 01, "A plan as marks"), and the classes of slots,
+-- which decide the same (proofs/Ranges.antt).
 use Prim.Native.Nat.{ℕ}
 use mathlib.Core.Bool.{Bool, true, false, cond, _||_}
 use mathlib.Core.List.{List, [], _∷_}
@@ -12,7 +13,7 @@ use Rattle.rule.specs.declared.Shape.{Shape}
 abbrev pub range : (lowest highest : ℤ) → Range
 range lo hi = record { lowest = lo; highest = hi }
 
--- no lowest load is above its highest
+-- in no slot is the lowest load above the highest
 abbrev pub Proper : List Range → Type 0
 Proper [] = Unit
 Proper (r ∷ rs) = (r .lowest ≤ℤ r .highest) × Proper rs

@@ -1,6 +1,6 @@
--- The rule of plans, written from document 01. A plan is a list of marks, one byte per slot: 0 uncovered, 1 first slot of a
--- window, 2 a later over slot of it, 3 a bridge ("A plan as marks"); a bridge, in document 01's term, is an under slot in a
--- window. Loads and the threshold k are integers: every k is taken ("The rule, by source").
+-- The rule of plans, written from document 01. A plan is a list of marks, one byte per slot: 0 uncovered, 1 first slot
+-- of a window, 2 a later over slot of it, 3 a bridge ("A plan as marks"); a bridge, in document 01's term, is an under
+-- slot in a window. Loads and the threshold k are integers: every k is taken ("The rule, by source").
 use Prim.Native.Nat.{ℕ, suc, _-_, _≤_}
 use mathlib.Core.Bool.{Bool, true, false, cond, not, _&&_, _||_}
 use mathlib.Core.List.{List, [], _∷_}
@@ -15,26 +15,26 @@ use Rattle.rule.specs.declared.Shape.{Shape}
 unfoldable pub over : (k load : ℤ) → Bool
 over k load = ltZ k load
 
--- the byte m is one from a to b
+-- the byte m is from a to b, both included
 abbrev pub between : (a b m : ℕ) → Bool
 between a b m = leb a m && leb m b
 
--- "A plan as marks", as all that follows up to `legal`: marks 1 and 2 go with over loads, 0 and 3 with under loads; no byte
--- above 3 goes with any
+-- "A plan as marks", which is also the source of all that follows up to `legal`: marks 1 and 2 go with over loads, 0
+-- and 3 with under loads; no byte above 3 goes with any load
 unfoldable pub goesWith : (over : Bool) (m : ℕ) → Bool
 goesWith true m = eqb m 1 || eqb m 2
 goesWith false m = eqb m 0 || eqb m 3
 
--- each mark goes with its slot, and there are as many of the one as of the other. A slot may be of any type, with a test of the
--- marks that go with it: a load (`legal`, below), or what a slot can be (Ranges)
+-- each mark goes with its slot, and there are as many marks as slots. A slot may be of any type, given a test of the
+-- marks that go with it: a load (`legal`, below), or a class (specs/Ranges.antt)
 unfoldable pub agrees : {A : Type 0} → (A → ℕ → Bool) → List A → List ℕ → Bool
 agrees goes [] [] = true
 agrees goes [] (m ∷ ms) = false
 agrees goes (x ∷ xs) [] = false
 agrees goes (x ∷ xs) (m ∷ ms) = goes x m && agrees goes xs ms
 
--- mark 2 may follow 1, 2 or 3; mark 3 may follow 1, 2 or 3, never 0, and must not be followed by 0 or by 1; bytes above 3 are
--- never legal
+-- mark 2 may follow 1, 2 or 3; mark 3 may follow 1, 2 or 3, never 0, and must not be followed by 0 or
+-- by 1; bytes above 3 are never legal
 unfoldable pub follows : (previous m : ℕ) → Bool
 follows p m = (between 0 1 m && between 0 2 p) || (between 2 3 m && between 1 3 p)
 
@@ -43,31 +43,31 @@ unfoldable pub ordered : (p : ℕ) → List ℕ → Bool
 ordered p [] = not (eqb p 3)
 ordered p (m ∷ ms) = follows p m && ordered m ms
 
--- the marks 2 and 3 with which a list begins: behind a mark 1, the rest of its window
+-- the marks 2 and 3 with which a list begins: after a mark 1, they are the rest of its window
 unfoldable pub rest : List ℕ → List ℕ
 rest [] = []
 rest (m ∷ ms) = cond (between 2 3 m) (m ∷ rest ms) []
 
--- the windows that marks draw, each as its own marks: a mark 1 with the marks 2 and 3 right behind it
+-- the windows that marks draw, each as its own marks: a mark 1 with the marks 2 and 3 that directly follow it
 unfoldable pub drawn : List ℕ → List (List ℕ)
 drawn [] = []
 drawn (m ∷ ms) = cond (eqb m 1) ((m ∷ rest ms) ∷ drawn ms) (drawn ms)
 
 -- how many of the marks pass a test
-unfoldable pub count : (ℕ → Bool) → List ℕ → ℕ
-count p [] = 0
-count p (m ∷ ms) = cond (p m) (suc (count p ms)) (count p ms)
+unfoldable pub countIf : (ℕ → Bool) → List ℕ → ℕ
+countIf p [] = 0
+countIf p (m ∷ ms) = cond (p m) (suc (countIf p ms)) (countIf p ms)
 
 -- a window keeps its shape: it has at most len slots and holds at most h bridges ("The rule, by source")
 unfoldable pub keeps : Shape → List ℕ → Bool
-keeps shape window = leb (length window) (shape .len) && leb (count (λ m. eqb m 3) window) (shape .h)
+keeps shape window = leb (length window) (shape .len) && leb (countIf (λ m. eqb m 3) window) (shape .h)
 
 unfoldable pub every : (List ℕ → Bool) → List (List ℕ) → Bool
 every p [] = true
 every p (w ∷ ws) = p w && every p ws
 
--- marks are legal when all this holds and each window so drawn keeps the shape. Slot 0 has mark 0 or 1, which is what may
--- follow a mark 0
+-- marks are legal when all this holds and each window so drawn keeps the shape. Slot 0 has mark 0 or 1:
+-- these are the marks that may follow a mark 0
 unfoldable pub legalBy : {A : Type 0} → (A → ℕ → Bool) → Shape → List A → List ℕ → Bool
 legalBy goes shape slots marks = agrees goes slots marks && ordered 0 marks && every (keeps shape) (drawn marks)
 
@@ -79,7 +79,7 @@ carries k load m = goesWith (over k load) m
 abbrev pub legal : (k : ℤ) → Shape → List ℤ → List ℕ → Bool
 legal k shape loads marks = legalBy (carries k) shape loads marks
 
--- a shape by its numbers
+-- a shape from its two numbers
 abbrev pub shaped : (len h : ℕ) → Shape
 shaped len h = record { len = len; h = h }
 
@@ -94,12 +94,12 @@ nonzero shape = record { len = suc (shape .len - 1); h = shape .h }
 
 -- the window count of marks, and their covered count, bridges included ("The rule, by source")
 unfoldable pub windows : List ℕ → ℕ
-windows marks = count (λ m. eqb m 1) marks
+windows marks = countIf (λ m. eqb m 1) marks
 
 unfoldable pub covered : List ℕ → ℕ
-covered marks = count (λ m. not (eqb m 0)) marks
+covered marks = countIf (λ m. not (eqb m 0)) marks
 
--- v is the least of a count over the marks that P holds of
+-- v is the least value of a count over the lists of marks that P holds of
 pub record LeastOver (P : List ℕ → Type 0) (count : List ℕ → ℕ) (v : ℕ) : Type 0 where
   pub met : (ms : List ℕ) × P ms × (count ms ≡ v)
   pub least : (ms : List ℕ) → P ms → v ≤ count ms

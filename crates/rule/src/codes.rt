@@ -1,11 +1,11 @@
 // What a slot can be, as a byte.
 ghost use mathlib.Core.Path.{_≡_};
 ghost use Rattle.rule.specs.Ranges.{classOf};
-ghost use Rattle.rule.specs.Codes.{code};
+ghost use Rattle.rule.specs.ClassCodes.{code};
 use crate::Range;
 use crate::over;
 
-// A slot can be under only, over only, or is open. Who reads such a byte takes any other as open (`coded`).
+// A slot can be under only, over only, or either, in which case it is open. Any other byte counts as open (`decode`).
 pub const UNDER: u8 = 0;
 
 pub const OVER: u8 = 1;

@@ -1,5 +1,6 @@
-// The rule of plans: its definitions in specs/, what follows from them in proofs/. Beside them stands what code above shares: the
-// shape of windows, a slot's load range, the test of a load, what a slot can be, and where a reading of marks stands.
+// The rule of plans: its definitions are in specs/, what follows from them is in proofs/. The code here
+// is what other crates share: the shape of windows, a slot's load range, the test of a load, what a
+// slot can be, and the state of a scan of marks.
 ghost use mathlib.Core.Path.{_≡_};
 ghost use Rattle.rule.specs.Rule.{over as Rule·over};
 
@@ -29,8 +30,9 @@ pub fn over(k: i32, load: i32) -> bool
     load > k
 }
 
-// The mark before, 0 at the start, and the slots and bridges so far of the window that the reading lies in.
-pub struct Reading {
+// The state of a scan of marks from the left: the last mark, 0 at the start, and the slots and bridges
+// so far of the window under way.
+pub struct ScanState {
     pub mark: u8,
     pub slots: u16,
     pub bridges: u16,

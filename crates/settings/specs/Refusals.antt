@@ -13,7 +13,7 @@ use Rattle.rule.specs.declared.Shape.{Shape}
 use Rattle.settings.specs.declared.CountRange.{CountRange}
 use Rattle.settings.specs.declared.Settings.{Settings}
 
--- the most slots of a plan, and the places before, between and behind them
+-- the most slots of a plan, and the number of places before, between and after them
 abbrev pub limit : ℕ
 limit = 64
 
@@ -36,7 +36,7 @@ wrongLength shape n = eqb (shape .len) 0 || ltb n (shape .len)
 unfoldable pub wrongBridges : Shape → Bool
 wrongBridges shape = ltb 0 (shape .h) && leb (shape .len) (shape .h + 1)
 
--- 25, 26: the least above the most, or the most above n
+-- 25 and 26: the least is above the most, or the most is above n
 unfoldable pub wrongCounts : CountRange → (n : ℕ) → Bool
 wrongCounts range n = ltb (range .most) (range .least) || ltb n (range .most)
 
@@ -44,7 +44,7 @@ wrongCounts range n = ltb (range .most) (range .least) || ltb n (range .most)
 unfoldable pub lengthsRefusal : (n : ℕ) (different : Bool) → Option Refusal
 lengthsRefusal n different = first (row FirstLength (wrongSlots n) ∷ row OtherLength different ∷ [])
 
--- 23 and 24, which a watch's start shares
+-- 23 and 24, which the start of a watch checks too
 unfoldable pub shapeRefusal : (n : ℕ) → Shape → Option Refusal
 shapeRefusal n shape = first (row WindowLength (wrongLength shape n) ∷ row Bridges (wrongBridges shape) ∷ [])
 

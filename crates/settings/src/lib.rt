@@ -1,6 +1,6 @@
-// The settings of a request, and the refusals of lengths and settings, 21 to 26: the table is specs/Refusals.antt.
+// The settings of a request, and the refusals of lengths and settings, 21 to 26: their table is in specs/Refusals.antt.
 ghost use mathlib.Core.Path.{_≡_};
-ghost use Rattle.refusals.specs.Answer.{checked};
+ghost use Rattle.refusals.specs.Answer.{meaning};
 ghost use Rattle.settings.specs.Refusals.{refusal, lengthsRefusal, shapeRefusal, settingsRefusal};
 ghost use Rattle.settings.specs.Refusals.{wrongSlots, differs, wrongLength, wrongBridges, wrongCounts};
 use refusals::Checked;
@@ -10,7 +10,7 @@ use rule::Shape;
 // The most slots of a plan.
 pub const LIMIT: usize = 64;
 
-// The places before, between and behind so many slots.
+// The number of places before, between and after that many slots.
 pub const PLACES: usize = LIMIT + 1;
 
 // A range of counts, both ends included.
@@ -19,8 +19,8 @@ pub struct CountRange {
     pub most: u16,
 }
 
-// What a request asks besides its loads: the threshold, in document 01's letter, the shape of windows, and the ranges of the
-// window count and the covered count.
+// What a request has besides its loads: the threshold (k in document 01), the shape of windows, and the
+// ranges of the window count and the covered count.
 pub struct Settings {
     pub k: i32,
     pub shape: Shape,
@@ -28,9 +28,9 @@ pub struct Settings {
     pub covered: CountRange,
 }
 
-// Meets lengths and settings in their order.
+// Checks the lengths, then the settings.
 pub fn check(settings: Settings, n: usize, different: bool) -> Checked
-    ensures { λ r. ⌜ checked r ≡ refusal n different settings ⌝ }
+    ensures { λ r. ⌜ meaning r ≡ refusal n different settings ⌝ }
 {
     let lengths = check_lengths(n, different);
     if let Checked::Refused(refusal) = lengths {
@@ -39,9 +39,9 @@ pub fn check(settings: Settings, n: usize, different: bool) -> Checked
     check_settings(settings, n)
 }
 
-// Refusals 21 and 22, for a first slice of n entries; different says whether another has a different length.
+// Refusals 21 and 22, for a first slice of n entries; `different` says whether another slice has a different length.
 pub fn check_lengths(n: usize, different: bool) -> Checked
-    ensures { λ r. ⌜ checked r ≡ lengthsRefusal n different ⌝ }
+    ensures { λ r. ⌜ meaning r ≡ lengthsRefusal n different ⌝ }
 {
     if wrong_slots(n) {
         return Checked::Refused(Refusal::FirstLength);
@@ -54,7 +54,7 @@ pub fn check_lengths(n: usize, different: bool) -> Checked
 
 // Refusals 23 to 26, for n slots.
 pub fn check_settings(settings: Settings, n: usize) -> Checked
-    ensures { λ r. ⌜ checked r ≡ settingsRefusal n settings ⌝ }
+    ensures { λ r. ⌜ meaning r ≡ settingsRefusal n settings ⌝ }
 {
     let shape = check_shape(settings.shape, n);
     if let Checked::Refused(refusal) = shape {
@@ -71,7 +71,7 @@ pub fn check_settings(settings: Settings, n: usize) -> Checked
 
 // Refusals 23 and 24.
 pub fn check_shape(shape: Shape, n: usize) -> Checked
-    ensures { λ r. ⌜ checked r ≡ shapeRefusal n shape ⌝ }
+    ensures { λ r. ⌜ meaning r ≡ shapeRefusal n shape ⌝ }
 {
     if wrong_length(shape, n) {
         return Checked::Refused(Refusal::WindowLength);
@@ -82,14 +82,14 @@ pub fn check_shape(shape: Shape, n: usize) -> Checked
     Checked::Passed
 }
 
-// Whether another slice has a different length than the first, of n entries.
+// Whether another slice has a different length from the first, which has n entries.
 pub fn differ(n: usize, other: usize) -> bool
     ensures { λ r. ⌜ r ≡ differs n other ⌝ }
 {
     other != n
 }
 
-// The tests of the rows, from 21 on.
+// The tests of the table's other rows, in the order of their numbers.
 fn wrong_slots(n: usize) -> bool
     ensures { λ r. ⌜ r ≡ wrongSlots n ⌝ }
 {

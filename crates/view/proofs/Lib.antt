@@ -1,1 +1,1 @@
-mod Viewing
+mod AfterCall

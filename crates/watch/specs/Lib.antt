@@ -1,3 +1,4 @@
 pub mod States
+pub mod Start
 pub mod Tested
 pub mod Promise

@@ -1,4 +1,5 @@
--- What a start, a step and a run give (document 01, "Watch" and "Where each refusal is checked"), and what the count is.
+-- What a step and a run give (document 01, "Watch" and "Where each refusal is checked"), and what
+-- the count is. Start.antt has what a start gives.
 use Prim.Native.Nat.{ℕ, suc, _-_, _<_, min}
 use mathlib.Core.Bool.{Bool, true, cond}
 use mathlib.Core.List.{List, [], _∷_, _++_}
@@ -13,71 +14,66 @@ use Rattle.refusals.specs.declared.Refusal.{Refusal}
 use Rattle.refusals.specs.declared.Refusal.the-variants.{Unreached, Full}
 use Rattle.rule.specs.Rule.{legal, shaped, windows, LeastOver}
 use Rattle.rule.specs.declared.Shape.{Shape}
-use Rattle.watch.specs.States.{startRefusal, begun, led, most, Leads, Reached}
-use Rattle.watch.specs.declared.start.Started.{Started}
-use Rattle.watch.specs.declared.start.Started.the-variants.{Watching, Refused as start·Refused}
+use Rattle.watch.specs.States.{startRefusal, initial, stateAfter, maxTaken, LeadsTo, Reached}
 use Rattle.watch.specs.declared.Watch.{Watch}
 use Rattle.watch.specs.declared.step.Answer.{Answer as step·Answer}
-use Rattle.watch.specs.declared.step.Answer.the-variants.{Taken, Refused as step·Refused}
+use Rattle.watch.specs.declared.step.Answer.the-variants.{Taken, Refused}
 use Rattle.watch.specs.declared.step.Stepped.{Stepped}
 
--- a start gives a state, or a refusal and no state
-abbrev pub started : Started → Answer Watch
-started (Watching w) = gives w
-started (start·Refused r) = refuses r
-
-unfoldable pub starting : (k : ℤ) → Shape → Answer Watch
-starting k shape = answer (startRefusal shape) (begun k shape)
-
 -- a step's answer: the load is taken, with whether it opened a window, or a refusal
-abbrev pub told : step·Answer → Answer Bool
-told (Taken opened) = gives opened
-told (step·Refused r) = refuses r
+abbrev pub meaning : step·Answer → Answer Bool
+meaning (Taken opened) = gives opened
+meaning (Refused r) = refuses r
 
 -- a window was opened between two states
-abbrev pub opened : (before behind : Watch) → Bool
+abbrev pub opened : (before after : Watch) → Bool
 opened v w = ltb (v .windows) (w .windows)
 
 -- What a step gives, for every state and every load.
 pub record Steps (w : Watch) (load : ℤ) (r : Stepped) : Type 0 where
   -- 32: a state that no accepted start and steps lead to
-  pub unreached : (told (r .answer) ≡ refuses Unreached) ↔ (Reached w → ⊥)
+  pub unreached : (meaning (r .answer) ≡ refuses Unreached) ↔ (Reached w → ⊥)
   -- 33: 1,000,000 slots already taken
-  pub full : (told (r .answer) ≡ refuses Full) ↔ (Reached w × (w .taken ≡ most))
+  pub full : (meaning (r .answer) ≡ refuses Full) ↔ (Reached w × (w .taken ≡ maxTaken))
   -- no other refusal is given, and a watch refused at a step keeps its state
-  pub kept : (q : Refusal) → told (r .answer) ≡ refuses q → ((q ≡ Unreached) ⊎ (q ≡ Full)) × (r .watch ≡ w)
-  -- otherwise the loads that led to the state, and this one behind them, lead to what comes back, and the answer says whether
-  -- this one opened a window
-  pub taken : (k : ℤ) (shape : Shape) (loads : List ℤ) → Leads k shape loads w → length loads < most →
-      Leads k shape (loads ++ load ∷ []) (r .watch) × (told (r .answer) ≡ gives (opened w (r .watch)))
+  pub kept : (q : Refusal) → meaning (r .answer) ≡ refuses q → ((q ≡ Unreached) ⊎ (q ≡ Full)) × (r .watch ≡ w)
+  -- otherwise the loads that lead to the given state, followed by this one, lead to the state that
+  -- comes back, and the answer says whether this one opened a window
+  pub taken : (k : ℤ) (shape : Shape) (loads : List ℤ) → LeadsTo k shape loads w → length loads < maxTaken →
+      LeadsTo k shape (loads ++ load ∷ []) (r .watch) × (meaning (r .answer) ≡ gives (opened w (r .watch)))
 
--- A run steps load by load, up to the first that is refused: the state then, how many loads were taken, and the refusal.
-pub data Runs : (before : Watch) (loads : List ℤ) (behind : Watch) (taken : ℕ) (refusal : Option Refusal) → Type 0 where
+-- A run steps load by load, up to the first that is refused. It gives the state then, how many
+-- loads were taken, and the refusal, if any.
+pub data Runs : (before : Watch) (loads : List ℤ) (after : Watch) (taken : ℕ) (refusal : Option Refusal) → Type 0 where
   done : {w : Watch} → Runs w [] w 0 none
-  stops : {w : Watch} {x : ℤ} {xs : List ℤ} {q : Refusal} (r : Stepped) → Steps w x r → told (r .answer) ≡ refuses q →
+  stops : {w : Watch} {x : ℤ} {xs : List ℤ} {q : Refusal} (r : Stepped) → Steps w x r →
+      meaning (r .answer) ≡ refuses q →
       Runs w (x ∷ xs) (r .watch) 0 (some q)
-  goes-on : {w v : Watch} {x : ℤ} {xs : List ℤ} {b : Bool} {n : ℕ} {o : Option Refusal} (r : Stepped) → Steps w x r →
-      told (r .answer) ≡ gives b → Runs (r .watch) xs v n o → Runs w (x ∷ xs) v (suc n) o
+  continues : {w v : Watch} {x : ℤ} {xs : List ℤ} {b : Bool} {n : ℕ} {o : Option Refusal} (r : Stepped) → Steps w x r →
+      meaning (r .answer) ≡ gives b → Runs (r .watch) xs v n o → Runs w (x ∷ xs) v (suc n) o
 
--- From a state that loads lead to, a run takes as many loads as the limit leaves room for. These, behind those, lead to the state
--- that comes back, and it is refused, with 33, exactly when loads are left over.
-pub record RunsOn (k : ℤ) (shape : Shape) (loads xs : List ℤ) (v : Watch) (n : ℕ) (o : Option Refusal) : Type 0 where
-  pub taken : n ≡ min (length xs) (most - length loads)
-  pub state : Leads k shape (loads ++ take n xs) v
+-- From a state that loads lead to, a run takes as many loads as the limit allows. The earlier loads, followed by
+-- these, lead to the state that comes back, and the run is refused, with 33, exactly when loads are left over.
+pub record RunsToLimit (k : ℤ) (shape : Shape) (loads xs : List ℤ) (v : Watch) (n : ℕ)
+    (o : Option Refusal) : Type 0 where
+  pub taken : n ≡ min (length xs) (maxTaken - length loads)
+  pub state : LeadsTo k shape (loads ++ take n xs) v
   pub refused : o ≡ cond (ltb n (length xs)) (some Full) none
 
-abbrev pub RunsFrom : Type 0
-RunsFrom = (k : ℤ) (shape : Shape) (loads xs : List ℤ) (w v : Watch) (n : ℕ) (o : Option Refusal) → Leads k shape loads w →
-    Runs w xs v n o → RunsOn k shape loads xs v n o
+abbrev pub RunsFromReached : Type 0
+RunsFromReached =
+    (k : ℤ) (shape : Shape) (loads xs : List ℤ) (w v : Watch) (n : ℕ) (o : Option Refusal) → LeadsTo k shape loads w →
+    Runs w xs v n o → RunsToLimit k shape loads xs v n o
 
--- After an accepted start and any loads the window count is the least number of windows that covers them, over all legal marks.
-abbrev pub Least : Type 0
-Least = (k : ℤ) (shape : Shape) (loads : List ℤ) → startRefusal shape ≡ none →
-    LeastOver (λ ms. legal k shape loads ms ≡ true) windows (led (begun k shape) loads .windows)
+-- After an accepted start and any loads the window count is the least number of windows that covers
+-- them, over all legal marks.
+abbrev pub CountIsLeast : Type 0
+CountIsLeast = (k : ℤ) (shape : Shape) (loads : List ℤ) → startRefusal shape ≡ none →
+    LeastOver (λ ms. legal k shape loads ms ≡ true) windows (stateAfter (initial k shape) loads .windows)
 
 -- Case L: len 4, loads 1, 0, 0, 1
 abbrev pub caseL : (h : ℕ) → Watch
-caseL h = led (begun (pos 0) (shaped 4 h)) (pos 1 ∷ pos 0 ∷ pos 0 ∷ pos 1 ∷ [])
+caseL h = stateAfter (initial (pos 0) (shaped 4 h)) (pos 1 ∷ pos 0 ∷ pos 0 ∷ pos 1 ∷ [])
 
 pub record CaseL : Type 0 where
   pub one-bridge : caseL 1 .windows ≡ 2

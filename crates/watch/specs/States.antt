@@ -15,20 +15,21 @@ use Rattle.rule.specs.Rule.{over, shaped}
 use Rattle.rule.specs.declared.Shape.{Shape}
 use Rattle.watch.specs.declared.Watch.{Watch}
 
--- "Where each refusal is checked", the watch's rows of the settings: 23 with the limit in place of n, and 24
+-- "Where each refusal is checked", the settings rows for the watch: 23 with the limit in place of n, and 24
 abbrev pub startRefusal : Shape → Option Refusal
 startRefusal shape = shapeRefusal limit shape
 
 abbrev pub shapeOf : Watch → Shape
 shapeOf w = shaped (w .len) (w .h)
 
--- an accepted start: no slot taken, no window opened, none alive
-abbrev pub begun : (k : ℤ) → Shape → Watch
-begun k shape = record { k = k; len = shape .len; h = shape .h; taken = 0; windows = 0; room = 0; spare = 0 }
+-- an accepted start: no slot taken, no window opened, none active
+abbrev pub initial : (k : ℤ) → Shape → Watch
+initial k shape = record { k = k; len = shape .len; h = shape .h; taken = 0; windows = 0; room = 0; spare = 0 }
 
--- one slot more, with this many windows opened so far and this much left to the living one, which lives while it has slots left
-abbrev pub moved : Watch → (windows room spare : ℕ) → Watch
-moved w windows room spare =
+-- the state with one slot more taken, this many windows opened so far, and this much left to the
+-- active window; a window is active while it has slots left
+abbrev pub afterSlot : Watch → (windows room spare : ℕ) → Watch
+afterSlot w windows room spare =
     record {
       k = w .k;
       len = w .len;
@@ -39,44 +40,44 @@ moved w windows room spare =
       spare = cond (eqb room 0) 0 spare;
     }
 
--- an over load uses a slot of the living window, or opens one
+-- an over load uses a slot of the active window, or opens a window where none is active
 unfoldable pub afterOver : Watch → Watch
 afterOver w =
     cond (eqb (w .room) 0)
-    (moved w (w .windows + 1) (w .len - 1) (w .h))
-    (moved w (w .windows) (w .room - 1) (w .spare))
+    (afterSlot w (w .windows + 1) (w .len - 1) (w .h))
+    (afterSlot w (w .windows) (w .room - 1) (w .spare))
 
--- an under load uses a slot and a bridge of it, or ends it
+-- an under load uses a slot and a bridge of the active window, or ends it where no bridge is left
 unfoldable pub afterUnder : Watch → Watch
 afterUnder w =
     cond (eqb (w .spare) 0)
-    (moved w (w .windows) 0 0)
-    (moved w (w .windows) (w .room - 1) (w .spare - 1))
+    (afterSlot w (w .windows) 0 0)
+    (afterSlot w (w .windows) (w .room - 1) (w .spare - 1))
 
 unfoldable pub after : Watch → (load : ℤ) → Watch
 after w load = cond (over (w .k) load) (afterOver w) (afterUnder w)
 
--- the state behind these loads
-unfoldable pub led : Watch → (loads : List ℤ) → Watch
-led w [] = w
-led w (x ∷ xs) = led (after w x) xs
+-- the state after these loads
+unfoldable pub stateAfter : Watch → (loads : List ℤ) → Watch
+stateAfter w [] = w
+stateAfter w (x ∷ xs) = stateAfter (after w x) xs
 
 -- "It takes 1,000,000 slots"
-abbrev pub most : ℕ
-most = 1000000
+abbrev pub maxTaken : ℕ
+maxTaken = 1000000
 
 -- loads are signed 32-bit numbers ("From load ranges to windows")
-abbrev pub Loads : List ℤ → Type 0
-Loads [] = Unit
-Loads (x ∷ xs) = SFits w32 x × Loads xs
+abbrev pub FitLoads : List ℤ → Type 0
+FitLoads [] = Unit
+FitLoads (x ∷ xs) = SFits w32 x × FitLoads xs
 
 -- an accepted start and these loads, at most as many as a watch takes, lead to the state w
-pub record Leads (k : ℤ) (shape : Shape) (loads : List ℤ) (w : Watch) : Type 0 where
+pub record LeadsTo (k : ℤ) (shape : Shape) (loads : List ℤ) (w : Watch) : Type 0 where
   pub accepted : startRefusal shape ≡ none
-  pub fit : Loads loads
-  pub few : length loads ≤ most
-  pub state : led (begun k shape) loads ≡ w
+  pub fit : FitLoads loads
+  pub few : length loads ≤ maxTaken
+  pub state : stateAfter (initial k shape) loads ≡ w
 
 -- some accepted start and some loads lead to the state w
 abbrev pub Reached : Watch → Type 0
-Reached w = (k : ℤ) × (shape : Shape) × (loads : List ℤ) × Leads k shape loads w
+Reached w = (k : ℤ) × (shape : Shape) × (loads : List ℤ) × LeadsTo k shape loads w

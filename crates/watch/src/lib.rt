@@ -1,5 +1,6 @@
-// The watch, in document 01's term: the camera's own count of windows, load by load. The state that comes back replaces the one
-// that went in. What states loads lead to is specs/States.antt; what comes back is specs/Promise.antt.
+// The watch, in document 01's term: the camera's own count of windows, load by load. The state that
+// comes back replaces the one that went in. specs/States.antt has the states that loads lead to,
+// specs/Start.antt and specs/Promise.antt what comes back.
 mod reached;
 mod run;
 mod start;
@@ -10,8 +11,9 @@ pub use start::Started;
 pub use step::Answer;
 pub use step::Stepped;
 
-// The settings, how many slots were taken and how many windows opened, and what is left to the living window, the one that the
-// next slot may still lie in: room for slots, and bridges to spare. Both are 0 when none is alive.
+// The settings, how many slots were taken and how many windows opened, and what is left to the
+// active window, the one that the next slot may still lie in: `room` is the slots left to it,
+// `spare` the bridges. Both are 0 when no window is active.
 #[repr(C)]
 pub struct Watch {
     pub k: i32,

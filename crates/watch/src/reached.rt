@@ -6,8 +6,8 @@ ghost use mathlib.Core.Option.{none};
 ghost use Prim.Native.Nat.{_+_, _*_, _≤_, _<_};
 ghost use Rattle.settings.specs.Refusals.{limit};
 ghost use Rattle.rule.specs.Rule.{over as Rule·over};
-ghost use Rattle.watch.specs.States.{shapeOf, startRefusal, most, Reached};
-ghost use Rattle.watch.specs.Tested.{highest, shortest as Tested·shortest, Tallied, Idle, Alive};
+ghost use Rattle.watch.specs.States.{shapeOf, startRefusal, maxTaken, Reached};
+ghost use Rattle.watch.specs.Tested.{highest, spacing as Tested·spacing, Bounded, Idle, Active};
 use crate::Watch;
 use refusals::Checked;
 use rule::Shape;
@@ -16,7 +16,7 @@ use settings::LIMIT;
 use settings::check_shape;
 
 // The most slots that a watch takes.
-pub(crate) const MOST: u32 = 1000000;
+pub(crate) const MAX_TAKEN: u32 = 1000000;
 
 // With this threshold no load is over.
 const HIGHEST: i32 = 2147483647;
@@ -29,7 +29,7 @@ impl Watch {
         if let Checked::Refused(_) = checked {
             return false;
         }
-        if self.taken > MOST {
+        if self.taken > MAX_TAKEN {
             return false;
         }
         if self.windows > self.taken {
@@ -41,7 +41,7 @@ impl Watch {
         if self.room == 0 {
             return self.idle();
         }
-        self.alive()
+        self.active()
     }
 
     fn shape(self) -> Shape
@@ -53,7 +53,7 @@ impl Watch {
         }
     }
 
-    // A window opens at an over load.
+    // A window opens only at an over load, so where one was opened, some load is above the threshold.
     fn may_open(self) -> bool
         ensures { λ r. ⌜ (r ≡ true) ↔ ((self .windows ≡ 0) ⊎ (Rule·over (self .k) highest ≡ true)) ⌝ }
     {
@@ -63,21 +63,21 @@ impl Watch {
         over(self.k, HIGHEST)
     }
 
-    // No window is alive, and the slots taken are enough for each.
+    // No window is active, and the slots taken are enough for all the windows opened.
     fn idle(self) -> bool
-        requires { ⌜ Tallied self × (self .room ≡ 0) ⌝ }
+        requires { ⌜ Bounded self × (self .room ≡ 0) ⌝ }
         ensures { λ r. ⌜ (r ≡ true) ↔ Idle self ⌝ }
     {
         if self.spare > 0 {
             return false;
         }
-        self.windows * self.shortest() <= self.taken
+        self.windows * self.spacing() <= self.taken
     }
 
-    // A window is alive that began with an over slot, and the slots taken are enough for it and for each before it.
-    fn alive(self) -> bool
-        requires { ⌜ Tallied self × (1 ≤ self .room) ⌝ }
-        ensures { λ r. ⌜ (r ≡ true) ↔ Alive self ⌝ }
+    // A window is active, it began with an over slot, and the slots taken are enough for it and all before it.
+    fn active(self) -> bool
+        requires { ⌜ Bounded self × (1 ≤ self .room) ⌝ }
+        ensures { λ r. ⌜ (r ≡ true) ↔ Active self ⌝ }
     {
         if self.windows == 0 {
             return false;
@@ -88,7 +88,7 @@ impl Watch {
         if self.spare > self.h {
             return false;
         }
-        let before = (self.windows - 1) * self.shortest();
+        let before = (self.windows - 1) * self.spacing();
         fits(
             self.len - self.room,
             self.h - self.spare,
@@ -97,19 +97,19 @@ impl Watch {
         )
     }
 
-    // The least number of slots from a window's opening to the next one's.
-    fn shortest(self) -> u32
+    // The least number of slots from one window's opening to the next one's.
+    fn spacing(self) -> u32
         requires { ⌜ startRefusal (shapeOf self) ≡ none ⌝ }
-        ensures { λ r. ⌜ r ≡ Tested·shortest (shapeOf self) ⌝ }
+        ensures { λ r. ⌜ r ≡ Tested·spacing (shapeOf self) ⌝ }
     {
         if self.len == 1 { 1 } else { self.h as u32 + 2 }
     }
 }
 
-// Whether a window with so many slots and bridges so far began with an over slot, and the slots taken are enough for it behind
-// those of the windows before it.
+// Whether a window with so many slots and bridges so far began with an over slot, and the slots
+// taken are enough for it and for the windows before it, which need `before` slots.
 fn fits(slots: u16, bridges: u16, before: u32, taken: u32) -> bool
-    requires { ⌜ before ≤ most * limit ⌝ }
+    requires { ⌜ before ≤ maxTaken * limit ⌝ }
     ensures { λ r. ⌜ (r ≡ true) ↔ ((bridges < slots) × (before + slots ≤ taken)) ⌝ }
 {
     if bridges >= slots {

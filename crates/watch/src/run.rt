@@ -1,11 +1,12 @@
-// Many loads.
-ghost use Rattle.refusals.specs.Answer.{checked};
+// A run of the watch: many loads.
+ghost use Rattle.refusals.specs.Answer.{meaning};
 ghost use Rattle.watch.specs.Promise.{Runs};
 use crate::Watch;
 use crate::step::Answer;
 use refusals::Checked;
 
-// The state behind the loads that were taken, how many these are, and whether that is all of them, or why the next is refused.
+// The state after the loads that were taken, how many these are, and whether they are all the
+// loads, or why the next one is refused.
 pub struct Ran {
     pub watch: Watch,
     pub taken: usize,
@@ -15,7 +16,7 @@ pub struct Ran {
 impl Watch {
     // Steps load by load, up to the first that is refused.
     pub fn run(self, loads: &[i32]) -> Ran
-        ensures { λ r. ⌜ Runs self (now (loads .entry)) (r .watch) (r .taken) (checked (r .ended)) ⌝ }
+        ensures { λ r. ⌜ Runs self (now (loads .entry)) (r .watch) (r .taken) (meaning (r .ended)) ⌝ }
     {
         let mut watch = self;
         let mut i = 0;

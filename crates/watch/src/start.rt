@@ -1,6 +1,6 @@
 // The start of a watch.
 ghost use mathlib.Core.Path.{_≡_};
-ghost use Rattle.watch.specs.Promise.{started, starting};
+ghost use Rattle.watch.specs.Start.{meaning, starting};
 use crate::Watch;
 use refusals::Checked;
 use refusals::Refusal;
@@ -15,9 +15,9 @@ pub enum Started {
 }
 
 impl Watch {
-    // No slot is taken yet. Refused with 23 or 24, as for a plan of the most slots.
+    // In the state that comes back no slot is taken yet. The shape is refused with 23 or 24, as for LIMIT slots.
     pub fn start(k: i32, shape: Shape) -> Started
-        ensures { λ r. ⌜ started r ≡ starting k shape ⌝ }
+        ensures { λ r. ⌜ meaning r ≡ starting k shape ⌝ }
     {
         let checked = check_shape(shape, LIMIT);
         if let Checked::Refused(refusal) = checked {

@@ -1,12 +1,12 @@
-// One load more.
+// A step of the watch: one load more.
 ghost use mathlib.Core.Path.{_≡_};
 ghost use Prim.Native.Nat.{_<_};
-ghost use Rattle.watch.specs.States.{most, moved as States·moved, afterOver, afterUnder, after as States·after};
+ghost use Rattle.watch.specs.States.{maxTaken, afterSlot, afterOver, afterUnder, after as States·after};
 ghost use Rattle.watch.specs.Tested.{Ready};
 ghost use Rattle.watch.specs.declared.step.Answer.the-variants.{Refused};
 ghost use Rattle.watch.specs.Promise.{Steps};
 use crate::Watch;
-use crate::reached::MOST;
+use crate::reached::MAX_TAKEN;
 use refusals::Refusal;
 use rule::over;
 
@@ -30,7 +30,7 @@ impl Watch {
         if !self.reached() {
             return refused(self, Refusal::Unreached);
         }
-        if self.taken == MOST {
+        if self.taken == MAX_TAKEN {
             return refused(self, Refusal::Full);
         }
         let watch = self.after(load);
@@ -42,7 +42,7 @@ impl Watch {
         }
     }
 
-    // The state behind a load, by the load's side.
+    // The state after a load, by whether the load is over or under.
     fn after(self, load: i32) -> Watch
         requires { ⌜ Ready self ⌝ }
         ensures { λ r. ⌜ r ≡ States·after self load ⌝ }
@@ -53,32 +53,32 @@ impl Watch {
         self.after_under()
     }
 
-    // An over load uses a slot of the living window, or opens one.
+    // An over load uses a slot of the active window, or opens a window where none is active.
     fn after_over(self) -> Watch
         requires { ⌜ Ready self ⌝ }
         ensures { λ r. ⌜ r ≡ afterOver self ⌝ }
     {
         if self.room == 0 {
-            return self.moved(self.windows + 1, self.len - 1, self.h);
+            return self.after_slot(self.windows + 1, self.len - 1, self.h);
         }
-        self.moved(self.windows, self.room - 1, self.spare)
+        self.after_slot(self.windows, self.room - 1, self.spare)
     }
 
-    // An under load uses a slot and a bridge of it, or ends it.
+    // An under load uses a slot and a bridge of the active window, or ends it where no bridge is left.
     fn after_under(self) -> Watch
         requires { ⌜ Ready self ⌝ }
         ensures { λ r. ⌜ r ≡ afterUnder self ⌝ }
     {
         if self.spare == 0 {
-            return self.moved(self.windows, 0, 0);
+            return self.after_slot(self.windows, 0, 0);
         }
-        self.moved(self.windows, self.room - 1, self.spare - 1)
+        self.after_slot(self.windows, self.room - 1, self.spare - 1)
     }
 
-    // One slot more, with this many windows, and this much left to the living one.
-    fn moved(self, windows: u32, room: u16, spare: u16) -> Watch
-        requires { ⌜ self .taken < most ⌝ }
-        ensures { λ r. ⌜ r ≡ States·moved self windows room spare ⌝ }
+    // The state with one slot more taken, this many windows opened, and this much left to the active window.
+    fn after_slot(self, windows: u32, room: u16, spare: u16) -> Watch
+        requires { ⌜ self .taken < maxTaken ⌝ }
+        ensures { λ r. ⌜ r ≡ afterSlot self windows room spare ⌝ }
     {
         Watch {
             k: self.k,

@@ -27,7 +27,11 @@ enum-known-answer-2 c = search needs
 
 returns : tie.Need-returns
 returns c =
-    rw (c .before .before .before .before .answer .given .1, ← c .before .before .number .ensures, ← c .before .slot .ensures)
+    rw (
+      c .before .before .before .before .answer .given .1,
+      ← c .before .before .number .ensures,
+      ← c .before .slot .ensures,
+    )
     (c .without-counts .ensures)
 
 returns-2 : tie.Need-returns-2

@@ -1,5 +1,5 @@
 -- `c_api::icecoppice_filter` meets its contract: the answer is the filter's, for settings of these numbers.
-use Rattle.filter.specs.Answers.{told}
+use Rattle.filter.specs.AnswerMeaning.{meaning}
 use mir.Facts.{toZ-ofZ}
 use borrow.Author.Needs.{needs}
 use Rattle.c_api.proofs.icecoppice_filter.Statement.{statement}
@@ -25,13 +25,13 @@ same-length-3 c = search needs
 
 returns : tie.Need-returns
 returns c =
-    let told-by = c .before .before .before .before .before in
-    let gathered = told-by .before .before .before .before in
+    let filtered = c .before .before .before .before .before in
+    let gathered = filtered .before .before .before .before in
     let settings = simp (toZ-ofZ, gathered .before .before .fits .k) at (gathered .gather .ensures) in
     record {
-      answer = told (told-by .filter .result);
+      answer = meaning (filtered .filter .result);
       is = c .answer-numbers .ensures;
-      kept = rw (← settings) (told-by .filter .ensures);
+      kept = rw (← settings) (filtered .filter .ensures);
     }
 
 pub icecoppice-filter-spec : {M : Type 1} → statement M

@@ -1,4 +1,4 @@
--- `cases::each_line` is safe and ends: each line begins behind the one before.
+-- `cases::each_line` is safe and ends: each line begins after the one before.
 use Prim.Native.Nat.{_-_, _≤_}
 use borrow.Author.Needs.{needs}
 use lib.ListN.{length}
@@ -14,8 +14,8 @@ abbrev μ-loop : tie.MeasureT-loop
 loop-holds : tie.Need-loop-holds Inv-loop μ-loop
 loop-holds c = search needs
 
-behind-requires : tie.Need-behind-requires Inv-loop μ-loop
-behind-requires c κs = search needs
+after-byte-requires : tie.Need-after-byte-requires Inv-loop μ-loop
+after-byte-requires c κs = search needs
 
 sub-line : tie.Need-sub-line Inv-loop μ-loop
 sub-line c = search needs
@@ -45,7 +45,7 @@ each-line-spec =
     Inv-loop
     μ-loop
     loop-holds
-    behind-requires
+    after-byte-requires
     sub-line
     part-line-start
     part-line-end

@@ -1,4 +1,4 @@
--- `checks::first_crossed` meets its contract. The loop's invariant: no ranges cross before slot i (`Uncrossed`).
+-- `checks::first_crossed` meets its contract. The loop's invariant: no range before slot i is crossed (`Uncrossed`).
 use Prim.Native.Nat.{_-_}
 use native.Mathlib.Omega.{arith}
 use mathlib.Core.Path.{_≡_, sym, _∙_}
@@ -8,7 +8,8 @@ use lib.Signed.{ltZ}
 use mir.Facts.{toZ-ofZ}
 use mir.Syntax.{w32}
 use mir.Val.{SFits}
-use Rattle.checks.proofs.Crossing.{Uncrossed, none-met, met-here, met-later, met-nowhere}
+use Rattle.checks.proofs.FirstCrossedLoop.{Uncrossed, uncrossed-start, crossed-here, uncrossed-step}
+use Rattle.checks.proofs.FirstCrossedLoop.{uncrossed-end}
 use Rattle.requests.specs.Request.{at}
 use Rattle.checks.proofs.first_crossed.Statement.{statement}
 use Rattle.checks.proofs.first_crossed.Tie as tie
@@ -20,7 +21,7 @@ abbrev μ-loop : tie.MeasureT-loop
 μ-loop lowest highest i₀ i = length lowest - i
 
 loop-holds : tie.Need-loop-holds Inv-loop μ-loop
-loop-holds c = none-met
+loop-holds c = uncrossed-start
 
 mul-above : tie.Need-mul-above Inv-loop μ-loop
 mul-above c = search needs
@@ -37,7 +38,7 @@ shared-slice-copy-out-above-2 c = search needs
 above-requires : tie.Need-above-requires Inv-loop μ-loop
 above-requires c κs = search needs
 
--- the test is of slot i's ends
+-- the test compares the two ends of slot i's range
 tested : (c : tie.After-above Inv-loop μ-loop) →
     let args = c .before .before .before .before .before .args in
     let i = c .before .before .before .before .loop .i in
@@ -52,7 +53,7 @@ tested c =
 returns : tie.Need-returns Inv-loop μ-loop
 returns c =
     let loop = c .before .before .before .before .before .loop in
-    met-here (loop .i) (omega arith) (loop .inv) (omega arith) (sym (tested (c .before)) ∙ c .if1 .taken)
+    crossed-here (loop .i) (omega arith) (loop .inv) (omega arith) (sym (tested (c .before)) ∙ c .if1 .taken)
 
 add-i : tie.Need-add-i Inv-loop μ-loop
 add-i c = search needs
@@ -63,12 +64,12 @@ loop-less c = search needs
 loop-again : tie.Need-loop-again Inv-loop μ-loop
 loop-again c =
     let loop = c .before .before .before .before .before .loop in
-    met-later (loop .i) (omega arith) (loop .inv) (omega arith) (sym (tested (c .before)) ∙ c .if1 .left)
+    uncrossed-step (loop .i) (omega arith) (loop .inv) (omega arith) (sym (tested (c .before)) ∙ c .if1 .left)
 
 returns-2 : tie.Need-returns-2 Inv-loop μ-loop
 returns-2 c =
     let loop = c .before .loop in
-    met-nowhere (loop .i) (omega arith) (loop .inv) (omega arith)
+    uncrossed-end (loop .i) (omega arith) (loop .inv) (omega arith)
 
 pub first-crossed-spec : {M : Type 1} → statement M
 first-crossed-spec =

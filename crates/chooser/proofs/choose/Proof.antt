@@ -29,7 +29,8 @@ slice-aggregate-result : tie.Need-slice-aggregate-result
 slice-aggregate-result c = search needs
 
 chosen : (c : tie.After-prefer) → let args = c .before .before .before .before .before .args in
-    choice (judgment (args .settings) (args .loads .now) (args .first .now)) (judgment (args .settings) (args .loads .now) (args .second .now)) ≡ c .prefer .result
+    choice (judgment (args .settings) (args .loads .now) (args .first .now))
+    (judgment (args .settings) (args .loads .now) (args .second .now)) ≡ c .prefer .result
 chosen c = rw (← c .before .before .judge .ensures, ← c .before .judge2 .ensures) (sym (c .prefer .ensures))
 
 returns : tie.Need-returns

@@ -1,5 +1,5 @@
 -- `chooser::fewer` meets its contract: its tests are the definition's.
-use Rattle.facts.proofs.Rules.{rules}
+use Rattle.facts.proofs.Tests.{rules}
 use Rattle.chooser.specs.Choice
 use Rattle.chooser.proofs.fewer.Statement.{statement}
 use Rattle.chooser.proofs.fewer.Tie as tie

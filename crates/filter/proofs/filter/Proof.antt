@@ -1,9 +1,9 @@
--- `filter::filter` meets its contract: a refusal is the first that applies, and a request that passes is planned (`plan`).
+-- `filter::filter` meets its contract: a refusal is the first that applies, and `plan` answers a request that passes.
 use mathlib.Core.Path.{_≡_, sym, ap, _∙_}
 use borrow.Author.Needs.{needs}
-use Rattle.refusals.specs.Answer.{checked}
-use Rattle.requests.proofs.Keeping.{refusal-kept}
-use Rattle.requests.specs.Request.{asked, refused}
+use Rattle.refusals.specs.Answer.{meaning}
+use Rattle.requests.proofs.SolutionKeeps.{refusal-keeps}
+use Rattle.requests.specs.Request.{requestOf, filterRefusal}
 use Rattle.filter.proofs.filter.Statement.{statement}
 use Rattle.filter.proofs.filter.Tie as tie
 
@@ -15,15 +15,18 @@ check-request-requires c κs = search needs
 
 -- the first refusal that applies, if any
 found : (c : tie.After-check-request) → let args = c .before .before .before .before .before .args in
-    checked (c .check-request .result) ≡ refused (asked (args .settings) (args .lowest .now) (args .highest .now) (args .marks .now))
-unfolding refused
+    meaning (c .check-request .result) ≡ filterRefusal
+    (requestOf (args .settings) (args .lowest .now) (args .highest .now) (args .marks .now))
+unfolding filterRefusal
 found c = rw (← c .before .before .before .differ .ensures) (c .check-request .ensures)
 
 enum-told : tie.Need-enum-told
 enum-told c = search needs
 
 plan-requires : tie.Need-plan-requires
-plan-requires c κs = sym (found (c .before .before .before .before .before)) ∙ ap checked (c .before .before .before .enum-told .given .1)
+plan-requires c κs =
+    sym (found (c .before .before .before .before .before))
+    ∙ ap meaning (c .before .before .before .enum-told .given .1)
 
 enum-known-checked : tie.Need-enum-known-checked
 enum-known-checked c = search needs
@@ -47,7 +50,7 @@ same-length-5 : tie.Need-same-length-5
 same-length-5 c = search needs
 
 returns-2 : tie.Need-returns-2
-returns-2 c = refusal-kept _ (sym (found (c .before .before .before)) ∙ ap checked (c .before .checked .given .1))
+returns-2 c = refusal-keeps _ (sym (found (c .before .before .before)) ∙ ap meaning (c .before .checked .given .1))
 
 pub filter-spec : {M : Type 1} → statement M
 filter-spec =

@@ -1,37 +1,37 @@
--- `form1::open` meets its contract: what `check` gave, and a whole file has the trailer and the records.
+-- `form1::open` meets its contract: it refuses as `check` does, and a file that passes has its trailer and records.
 use native.Mathlib.Omega.{arith}
 use mathlib.Core.Option.{Option, none}
 use mathlib.Core.Path.{_≡_, refl, sym, ap, _∙_}
 use borrow.Author.Needs.{needs}
-use Rattle.refusals.specs.Answer.{checked}
+use Rattle.refusals.specs.Answer.{meaning}
 use Rattle.refusals.specs.declared.Checked.{Checked}
 use Rattle.refusals.specs.declared.Refusal.{Refusal}
-use Rattle.form1.proofs.Passing.{whole}
+use Rattle.form1.proofs.WholeFile.{pass→whole}
 use Rattle.form1.specs.Form1.{fileRefusal}
 use Rattle.form1.specs.Opening.{opening}
 use Rattle.form1.proofs.open.Statement.{statement}
 use Rattle.form1.proofs.open.Tie as tie
 
--- what the rows come to, by what `check` gave
-met : {o : Option Refusal} {r q : Checked} → checked r ≡ o → r ≡ q → o ≡ checked q
-met is e = sym is ∙ ap checked e
+-- which refusal of the file applies, known from what `check` gave
+met : {o : Option Refusal} {r q : Checked} → meaning r ≡ o → r ≡ q → o ≡ meaning q
+met is e = sym is ∙ ap meaning e
 
 returns : tie.Need-returns
 unfolding opening
 returns c = rw (met (c .before .before .before .check .ensures) (c .before .checked .given .1)) refl
 
--- no row of the file applies
+-- no refusal of the file applies
 passing : (c : tie.After-enum-told) → fileRefusal (c .before .before .before .before .args .file .now) ≡ none
 passing c = met (c .before .before .check .ensures) (c .enum-told .given .1)
 
 settings-requires : tie.Need-settings-requires
-settings-requires c κs = whole _ (passing c) .long
+settings-requires c κs = pass→whole _ (passing c) .long
 
 slots-requires : tie.Need-slots-requires
-slots-requires c κs = whole _ (passing (c .before)) .long
+slots-requires c κs = pass→whole _ (passing (c .before)) .long
 
 start-requires : tie.Need-start-requires
-start-requires c κs = let file = whole _ (passing (c .before .before)) in omega (arith, file .back, file .there)
+start-requires c κs = let file = pass→whole _ (passing (c .before .before)) in omega (arith, file .back, file .there)
 
 returns-2 : tie.Need-returns-2
 unfolding opening

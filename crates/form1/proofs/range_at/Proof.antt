@@ -1,4 +1,4 @@
--- `form1::range_at` meets its contract: its tests are that of the definition.
+-- `form1::range_at` meets its contract: its two tests together are the one test of `rangeAt`.
 use Prim.Native.Nat.{_+_}
 use native.Mathlib.Omega.{arith}
 use mathlib.Core.Path.{refl}

@@ -1,6 +1,6 @@
 -- `least::above` meets its contract: its test is the definition's.
 use native.Mathlib.Omega.{arith}
-use Rattle.facts.proofs.Rules.{rules}
+use Rattle.facts.proofs.Tests.{rules}
 use Rattle.least.proofs.above.Statement.{statement}
 use Rattle.least.proofs.above.Tie as tie
 

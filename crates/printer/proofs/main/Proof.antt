@@ -13,10 +13,10 @@ slice-aggregate-print c =
 
 slice-aggregate-write-all : tie.Need-slice-aggregate-write-all
 slice-aggregate-write-all c =
-    let k = c .before .before in
+    let point = c .before .before in
     sym
-    (length-take-le (k .print .result) (k .print .last .1 .0)
-    (omega (arith, k .print .ensures .written .ends, k .print .kept .1 .0)))
+    (length-take-le (point .print .result) (point .print .last .1 .0)
+    (omega (arith, point .print .ensures .written .ends, point .print .kept .1 .0)))
 
 pub main-spec : {M : Type 1} → statement M
 main-spec =

@@ -8,8 +8,8 @@ use Rattle.printer.proofs.print_plan.Tie as tie
 filter-requires : tie.Need-filter-requires
 filter-requires c κs = search needs
 
-answered-requires : tie.Need-answered-requires
-answered-requires c κs = search needs
+write-answer-requires : tie.Need-write-answer-requires
+write-answer-requires c κs = search needs
 
 same-length : tie.Need-same-length
 same-length c = search needs
@@ -23,19 +23,19 @@ same-length-3 c = search needs
 same-length-4 : tie.Need-same-length-4
 same-length-4 c = search needs
 
-abbrev filtered : tie.After-answered → tie.After-filter
+abbrev filtered : tie.After-write-answer → tie.After-filter
 filtered c = c .before .before .before .before .before .before .before .before .before
 
 returns : tie.Need-returns
 returns c =
-    let told = c .before .before in
-    let k = filtered told in
-    let start = k .before .before .before .before .before .before in
+    let listed = c .before .before in
+    let point = filtered listed in
+    let start = point .before .before .before .before .before .before in
     record {
       outcome = _;
-      holds = k .filter .ensures;
-      written = told .answered .ensures .0;
-      fits = le-trans (told .answered .ensures .1 (omega (arith, k .filter .kept .1 .0))) (start .pre .1);
+      holds = point .filter .ensures;
+      written = listed .write-answer .ensures .0;
+      fits = le-trans (listed .write-answer .ensures .1 (omega (arith, point .filter .kept .1 .0))) (start .pre .1);
     }
 
 pub print-plan-spec : {M : Type 1} → statement M
@@ -43,7 +43,7 @@ print-plan-spec =
     tie.close
     (tie.spec
     filter-requires
-    answered-requires
+    write-answer-requires
     same-length
     same-length-2
     same-length-3

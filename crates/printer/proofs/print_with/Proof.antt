@@ -1,4 +1,5 @@
--- `printer::print_with` meets its contract: what the reader refuses is written as such, and what it takes is planned.
+-- `printer::print_with` meets its contract: a refusal of the reader is written as such, and a file that it takes is
+-- planned.
 use Prim.Native.Nat.{ℕ, _≤_}
 use native.Mathlib.Nat.{le-trans}
 use native.Mathlib.Omega.{arith}
@@ -7,11 +8,11 @@ use borrow.Author.Needs.{needs}
 use lib.ListN.{length}
 use lib.Seq.{length-take-le}
 use Rattle.refusals.specs.Answer.{gives}
-use Rattle.card.proofs.Agreeing.{few-slots}
-use Rattle.card.specs.Reading.{told, reading}
-use Rattle.listing.specs.Text.{said, text}
+use Rattle.card.proofs.LookUpAgrees.{few-slots}
+use Rattle.card.specs.Reading.{meaning, reading}
+use Rattle.listing.specs.Text.{answerText, text}
 use Rattle.settings.specs.Refusals.{limit}
-use Rattle.printer.proofs.Telling.{refusal-of, of-refusal, of-plan}
+use Rattle.printer.proofs.OfFile.{refusal-of, of-refusal, of-plan}
 use Rattle.printer.proofs.print_with.Statement.{statement}
 use Rattle.printer.proofs.print_with.Tie as tie
 
@@ -21,13 +22,13 @@ read-requires c κs = search needs
 enum-known-refusal : tie.Need-enum-known-refusal
 enum-known-refusal c = search needs
 
-refused-requires : tie.Need-refused-requires
-refused-requires c κs = search needs
+write-refusal-requires : tie.Need-write-refusal-requires
+write-refusal-requires c κs = search needs
 
 enum-known-settings : tie.Need-enum-known-settings
 enum-known-settings c = search needs
 
--- where the file is taken: n, and what the reader gave
+-- where the reader takes the file: what it gave, and n
 abbrev was-read : tie.After-settings → tie.After-read
 was-read c = c .before .before .before .before
 
@@ -41,20 +42,23 @@ taken : (c : tie.After-settings) →
     let args = start (was-read c) .args in
     reading (args .file .now) (args .lowest .now) (args .highest .now) .answer
     ≡ gives (record { settings = c .settings .given .0 .0; n = n c })
-taken c = sym (ap (λ o. o .answer) (was-read c .read .ensures)) ∙ ap told (c .settings .given .1)
+taken c = sym (ap (λ o. o .answer) (was-read c .read .ensures)) ∙ ap meaning (c .settings .given .1)
 
 few : (c : tie.After-settings) → n c ≤ limit
 few c = omega (arith, few-slots _ _ _ (taken c))
 
--- and all three slices have n places
+-- all three slices then have at least n places
 places : (c : tie.After-settings) →
     (n c ≤ length (was-read c .read .last .1 .0))
     × (n c ≤ length (was-read c .read .last .1 .1 .0))
     × (n c ≤ length (start (was-read c) .args .marks .now))
 places c =
-    let k = was-read c in
-    let small = few c in
-    (omega (arith, small, k .read .kept .1 .0), omega (arith, small, k .read .kept .1 .1 .0), omega (arith, small))
+    let point = was-read c in
+    let n-bounded = few c in (
+      omega (arith, n-bounded, point .read .kept .1 .0),
+      omega (arith, n-bounded, point .read .kept .1 .1 .0),
+      omega (arith, n-bounded),
+    )
 
 slice-relend-prefix-print-plan : tie.Need-slice-relend-prefix-print-plan
 slice-relend-prefix-print-plan c = places (c .before) .0
@@ -76,9 +80,9 @@ slice-aggregate-print-plan-3 c = sym (length-take-le _ _ (places (c .before .bef
 
 print-plan-requires : tie.Need-print-plan-requires
 print-plan-requires c κs =
-    let k = c .before .before .before .before .before in
-    let read = was-read k in
-    (rw (length-take-le (n k) (read .read .last .1 .0) (places k .0)) (few k), start read .pre .1)
+    let point = c .before .before .before .before .before in
+    let read = was-read point in
+    (rw (length-take-le (n point) (read .read .last .1 .0) (places point .0)) (few point), start read .pre .1)
 
 same-length : tie.Need-same-length
 same-length c = search needs
@@ -90,16 +94,16 @@ same-length-3 : tie.Need-same-length-3
 same-length-3 c = search needs
 
 returns : tie.Need-returns
-unfolding text said
+unfolding text answerText
 returns c =
-    let told = c .before .before in
-    let known = told .before .before .before in
-    let k = known .before .before .before .before in
+    let listed = c .before .before in
+    let known = listed .before .before .before in
+    let point = known .before .before .before .before in
     record {
       outcome = refusal-of _;
-      holds = of-refusal _ _ _ _ (k .read .ensures) (known .refusal .given .1);
-      written = told .refused .ensures .0;
-      fits = le-trans (told .refused .ensures .1) (start k .pre .1);
+      holds = of-refusal _ _ _ _ (point .read .ensures) (known .refusal .given .1);
+      written = listed .write-refusal .ensures .0;
+      fits = le-trans (listed .write-refusal .ensures .1) (start point .pre .1);
     }
 
 same-length-4 : tie.Need-same-length-4
@@ -132,7 +136,7 @@ print-with-spec =
     (tie.spec
     read-requires
     enum-known-refusal
-    refused-requires
+    write-refusal-requires
     enum-known-settings
     slice-relend-prefix-print-plan
     slice-aggregate-print-plan

@@ -1,5 +1,5 @@
 -- `rule::over` meets its contract: its test is the definition's.
-use Rattle.facts.proofs.Rules.{rules}
+use Rattle.facts.proofs.Tests.{rules}
 use Rattle.rule.specs.Rule
 use Rattle.rule.proofs.over.Statement.{statement}
 use Rattle.rule.proofs.over.Tie as tie

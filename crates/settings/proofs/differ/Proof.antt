@@ -1,5 +1,5 @@
--- `settings::differ` meets its contract: its test is the row's.
-use Rattle.facts.proofs.Rules.{rules}
+-- `settings::differ` meets its contract: its test is that of row 22.
+use Rattle.facts.proofs.Tests.{rules}
 use Rattle.settings.specs.Refusals
 use Rattle.settings.proofs.differ.Statement.{statement}
 use Rattle.settings.proofs.differ.Tie as tie

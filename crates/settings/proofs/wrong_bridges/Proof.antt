@@ -1,6 +1,6 @@
--- `settings::wrong_bridges` meets its contract: its tests are the row's.
+-- `settings::wrong_bridges` meets its contract: its tests are those of row 24.
 use borrow.Author.Needs.{needs}
-use Rattle.facts.proofs.Rules.{rules}
+use Rattle.facts.proofs.Tests.{rules}
 use Rattle.settings.specs.Refusals
 use Rattle.settings.proofs.wrong_bridges.Statement.{statement}
 use Rattle.settings.proofs.wrong_bridges.Tie as tie

@@ -1,6 +1,6 @@
--- `settings::wrong_counts` meets its contract: its tests are the row's.
+-- `settings::wrong_counts` meets its contract: its tests are those of rows 25 and 26.
 use borrow.Author.Needs.{needs}
-use Rattle.facts.proofs.Rules.{rules}
+use Rattle.facts.proofs.Tests.{rules}
 use Rattle.settings.specs.Refusals
 use Rattle.settings.proofs.wrong_counts.Statement.{statement}
 use Rattle.settings.proofs.wrong_counts.Tie as tie

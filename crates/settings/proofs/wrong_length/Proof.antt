@@ -1,6 +1,6 @@
--- `settings::wrong_length` meets its contract: its tests are the row's.
+-- `settings::wrong_length` meets its contract: its tests are those of row 23.
 use borrow.Author.Needs.{needs}
-use Rattle.facts.proofs.Rules.{rules}
+use Rattle.facts.proofs.Tests.{rules}
 use Rattle.settings.specs.Refusals
 use Rattle.settings.proofs.wrong_length.Statement.{statement}
 use Rattle.settings.proofs.wrong_length.Tie as tie

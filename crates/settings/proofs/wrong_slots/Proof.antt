@@ -1,5 +1,5 @@
--- `settings::wrong_slots` meets its contract: its tests are the row's.
-use Rattle.facts.proofs.Rules.{rules}
+-- `settings::wrong_slots` meets its contract: its tests are those of row 21.
+use Rattle.facts.proofs.Tests.{rules}
 use Rattle.settings.specs.Refusals
 use Rattle.settings.proofs.wrong_slots.Statement.{statement}
 use Rattle.settings.proofs.wrong_slots.Tie as tie

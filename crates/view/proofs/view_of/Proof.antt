@@ -17,7 +17,8 @@ use contract.Monad.{Fun}
 use contract.Running.{givenOf, tables, tablesOf}
 use types.Kit.{Given, ‵, raw, _⊛_, _$_, _∵_, !, qed, by, move, split, fjoin, suffices, frame}
 use types.Part.{agg}
-use types.Run.{look, init, forget, stop, from, load, and-then, no-more, assigns, returns, enter, alloc1, alloc0, params1, pass1, pass0, free1, free0}
+use types.Run.{look, init, forget, stop, from, load, and-then, no-more, assigns, returns, enter, alloc1, alloc0}
+use types.Run.{params1, pass1, pass0, free1, free0}
 use sound.WpLaws.{WpFn-mono}
 use denote.RattleType.{owns}
 use denote.Laws.{Is}
@@ -41,7 +42,7 @@ use Rattle.view.proofs.view_of as view-of
 use Rattle.view.proofs.view_of.Statement as stated
 use Rattle.view.proofs.view_of.Code as code
 
--- nothing is said of a slice at exit, so nothing is kept of it
+-- the contract says nothing of a slice at exit, so nothing is kept of it
 abbrev stayed : Stays (view-of.ended .signature .params) (view-of.ended .kept)
 stayed = (stay-dropped (shrSliceOf (0 ∷ []) tt (plain (λ _. u8))) yes, tt)
 
@@ -70,11 +71,14 @@ module _ {M : Type 1} (𝓤 : URA M) (H : Heap 𝓤) (A : Atoms 𝓤) (mem : Mem
 
       exits : ent 𝓤 (Walked .pre here) (Walked .post here (T′.lowered made))
       exits =
-          qed W ((((‵ (flft κ q) ⊛ ‵ ftrue) ⊛ ‵ (owns (ShrSlice (named 0) κ u8 ∷ []) (file, tt) (v ∷ [], tt))) ⊛ ‵ ftrue) ∷ []) ∵
-          suffices ! _ (ends-at 𝓤 H A view-of.ended stayed clauses W here (T′.lowered made) made (tt, tt) (tt, tt)) $ says ! refl $
+          qed W ((((‵ (flft κ q) ⊛ ‵ ftrue) ⊛ ‵ (owns (ShrSlice (named 0) κ u8 ∷ []) (file, tt) (v ∷ [], tt)))
+          ⊛ ‵ ftrue) ∷ []) ∵
+          suffices ! _ (ends-at 𝓤 H A view-of.ended stayed clauses W here (T′.lowered made) made (tt, tt) (tt, tt))
+          $ says ! refl $
           split ! $ split ! $ frame ! $
           -- [what the slice owns; nothing]
-          move ! (1 ∷ []) $ nothing ! $ fjoin ! $ frame ! $ by ! (own-shut 𝓤 H A W (T.the-type α) (T′.the-laws α) (file, tt))
+          move ! (1 ∷ []) $ nothing ! $ fjoin ! $ frame ! $ by !
+          (own-shut 𝓤 H A W (T.the-type α) (T′.the-laws α) (file, tt))
 
       module _ (C : Calls 𝓤 H) (Λ : Loops 𝓤 H) where
         walk :
@@ -84,7 +88,7 @@ module _ {M : Type 1} (𝓤 : URA M) (H : Heap 𝓤) (A : Atoms 𝓤) (mem : Mem
             let typed = shr-slice-lawful 𝓤 H A W (named 0) κ u8 .typed file (v ∷ []) is .0 in
             qed W (raw (Walked .pre here) ∷ []) ∵ enter ! C Λ code.function (Walked .args here) _ $
             alloc1 ! (λ l₀. alloc1 ! (λ l₁. alloc0 ! $ params1 ! $ pass1 ! (init ! 0 refl typed) $ pass0 ! $
-            -- [_1; …; room for _0; …; what there is on entry]
+            -- [_1; …; memory for _0; …; what there is on entry]
             assigns ! (agg ! (and-then ! (load ! (from ! (stop !)) (look ! 0 refl)) (no-more !))) (from ! (stop !))
             (init ! 2 refl (tt, (typed .1, tt))) $
             returns ! (look ! 2 refl) $ forget ! 0 refl $ forget ! 2 refl $

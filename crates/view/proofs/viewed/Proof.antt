@@ -1,6 +1,6 @@
 -- `view::viewed` meets its contract: a walk of its MIR, by hand. The view that `view_of` returns is held in a local and
 -- passed to the method `look_up`. All that the proof knows of the two is that each meets its contract.
--- In a local MIR erases the lifetime of the view's type, so the view is shown to have the type at `erased`.
+-- In a local, MIR erases the lifetime of the view's type, so the view is shown to have the type at `erased`.
 use mathlib.Core.Path.{_≡_, refl, ap, _∙_}
 use Prim.Native.Nat.{ℕ, _<_, _^_}
 use mathlib.Core.List.{List, [], _∷_}
@@ -16,8 +16,10 @@ use prog.Wp.{Heap, Calls, Loops, WpFn, Tables}
 use ghost.Atoms.{Atoms}
 use contract.Monad.{Fun}
 use contract.Running.{givenOf, tables, tablesOf}
-use types.Kit.{Given, Item, ‵, raw, _⊛_, ⋆, _$_, _∵_, !, qed, by, move, drop, use1, use2, split, join, fsplit, fjoin, suffices, frame, done}
-use types.Run.{look, init, forget, stop, from, load, and-then, no-more, land, returns, enter, alloc1, alloc0, params1, pass1, pass0, free1, free0}
+use types.Kit.{Given, Item, ‵, raw, _⊛_, ⋆, _$_, _∵_, !, qed, by, move, drop, use1, use2, split, join, fsplit, fjoin}
+use types.Kit.{suffices, frame, done}
+use types.Run.{look, init, forget, stop, from, load, and-then, no-more, land, returns, enter, alloc1, alloc0, params1}
+use types.Run.{pass1, pass0, free1, free0}
 use sound.WpLaws.{FmC, fmOf, WpFn-mono}
 use denote.RattleType.{RattleType, owns}
 use denote.Laws.{Is, shows}
@@ -37,8 +39,8 @@ use denote.Triple.Spec.{Meets, tripleOf}
 use denote.Triple.Table.{entered, cited}
 use denote.Triple.Walked.{says, Stays, stay-dropped, walkOf, goes-dropped, ends-at, walked, walk-meets}
 use denote.Exit.{yes}
-use Rattle.view.proofs.Viewing.{answers}
-use Rattle.card.specs.Reading.{shown, looking}
+use Rattle.view.proofs.AfterCall.{answers}
+use Rattle.card.specs.LookUp.{meaning, looking}
 use Rattle.view.specs.declared.View.{View}
 use Rattle.card.specs.declared.Found.{Found}
 use Rattle.view.proofs.View as T
@@ -58,7 +60,7 @@ use Rattle.view.proofs.viewed as viewed
 use Rattle.view.proofs.viewed.Statement as stated
 use Rattle.view.proofs.viewed.Code as code
 
--- nothing is said of a slice or a number at exit, so nothing is kept of them
+-- the contract says nothing of a slice or a number at exit, so nothing is kept of them
 abbrev stayed : Stays (viewed.ended .signature .params) (viewed.ended .kept)
 stayed = (stay-dropped (shrSliceOf (0 ∷ []) tt (plain (λ _. u8))) yes, (stay-dropped (plain (λ _. usize)) yes, tt))
 
@@ -107,7 +109,7 @@ module _ {M : Type 1} (𝓤 : URA M) (H : Heap 𝓤) (A : Atoms 𝓤) (mem : Mem
           -- [what the slice owns; the token; nothing]
           nothing ! $ move ! (1 ∷ 0 ∷ []) $ fjoin ! $ move ! (1 ∷ 0 ∷ []) $ join ! $ frame ! $ done !
 
-      -- the same of the method's call, at the view r with the machine value u
+      -- the same for the method's call, at the view r with the machine value u
       abbrev to-look : View → Val → Looks .Ghost
       to-look r u = (((κ, tt), (q, tt), tt, (r, (slot, tt)), (u ∷ [], (vint w64 slot ∷ [], tt))), tt)
 
@@ -119,7 +121,7 @@ module _ {M : Type 1} (𝓤 : URA M) (H : Heap 𝓤) (A : Atoms 𝓤) (mem : Mem
           move ! (1 ∷ 0 ∷ []) $ fjoin ! $ move ! (1 ∷ 0 ∷ []) $ join ! $ frame ! $ done !
 
       exits :
-          (t : Found) (u : Val) → shown t ≡ looking slot (now file) →
+          (t : Found) (u : Val) → meaning t ≡ looking slot (now file) →
           ent 𝓤 (⋆ 𝓤 H A (‵ (F.the-row .own t (u ∷ [])) ∷ token ∷ [])) (Walked .post here u)
       exits t u e =
           qed W (‵ (F.the-row .own t (u ∷ [])) ∷ token ∷ []) ∵
@@ -136,23 +138,27 @@ module _ {M : Type 1} (𝓤 : URA M) (H : Heap 𝓤) (A : Atoms 𝓤) (mem : Mem
             alloc1 ! (λ l₀. alloc1 ! (λ l₁. alloc1 ! (λ l₂. alloc1 ! (λ l₃. alloc0 ! $
             params1 ! $ pass1 ! (init ! 4 refl (shr-slice-lawful 𝓤 H A W (named 0) κ u8 .typed file (v ∷ []) is .0)) $
             pass1 ! (init ! 2 refl (tt, record { fits = fits })) $ pass0 ! $
-            -- [room for _3; …; _2; …; _1; …; room for _0; …; what there is on entry]
+            -- [memory for _3; …; _2; …; _1; …; memory for _0; …; what there is on entry]
             move ! (8 ∷ []) $ use1 W (raw (Makes .pre to-make)) goes-make $
-            -- [what `view_of` asks; room for _3; …; _2; …; _1; …; room for _0; …]
+            -- [what `view_of` asks; memory for _3; …; _2; …; _1; …; memory for _0; …]
             calls-at ! fm Makes makes to-make (and-then ! (load ! (from ! (stop !)) (look ! 5 refl)) (no-more !)) (λ u.
-            answers ! view-of.ended (view-of.clauses 𝓤 H A mem run) to-make u (λ r. r .file ≡ file) (λ r e. refl) tt (λ r made.
-            -- [what the view owns; the token; room for _3; …; _2; …; _1; …; room for _0; …]
+            answers ! view-of.ended (view-of.clauses 𝓤 H A mem run) to-make u (λ r. r .file ≡ file)
+            (λ r e. refl) tt (λ r made.
+            -- [what the view owns; the token; memory for _3; …; _2; …; _1; …; memory for _0; …]
             peeks ! B (Is B) (shows 𝓤 H A B) r (u ∷ []) (λ is-view.
-            land ! (from ! (stop !)) (init ! 2 refl (LL.lawful (T.the-type αᵉ) (T′.the-laws αᵉ) 𝓤 H A W .typed r _ is-view .0)) $
+            land ! (from ! (stop !))
+            (init ! 2 refl (LL.lawful (T.the-type αᵉ) (T′.the-laws αᵉ) 𝓤 H A W .typed r _ is-view .0)) $
             use2 W (raw (Looks .pre (to-look r u))) (goes-look r u) $
-            -- [what the method asks; _3; …; _2; …; _1; …; room for _0; …]
+            -- [what the method asks; _3; …; _2; …; _1; …; memory for _0; …]
             calls-at ! fm Looks looks (to-look r u) (and-then ! (load ! (from ! (stop !)) (look ! 1 refl))
             (and-then ! (load ! (from ! (stop !)) (look ! 3 refl)) (no-more !))) (λ w.
-            answers ! look-up.ended (look-up.clauses 𝓤 H A mem run) (to-look r u) w (λ t. shown t ≡ looking slot (now (r .file)))
+            answers ! look-up.ended (look-up.clauses 𝓤 H A mem run) (to-look r u) w
+            (λ t. meaning t ≡ looking slot (now (r .file)))
             (λ t e. refl) tt (λ t looked.
-            -- [the result; the token; _3; …; _2; …; _1; …; room for _0; …]
+            -- [the result; the token; _3; …; _2; …; _1; …; memory for _0; …]
             peeks ! F.the-row (Is F.the-row) (shows 𝓤 H A F.the-row) t (w ∷ []) (λ is-found.
-            land ! (from ! (stop !)) (init ! 8 refl (EL.lawful F.the-type F′.the-laws 𝓤 H A W tt .typed t _ is-found .0)) $
+            land ! (from ! (stop !))
+            (init ! 8 refl (EL.lawful F.the-type F′.the-laws 𝓤 H A W tt .typed t _ is-found .0)) $
             returns ! (look ! 8 refl) $ forget ! 2 refl $ forget ! 4 refl $ forget ! 6 refl $ forget ! 8 refl $
             move ! (8 ∷ 9 ∷ []) $ free1 ! $ move ! (6 ∷ 7 ∷ []) $ free1 ! $ move ! (4 ∷ 5 ∷ []) $ free1 ! $
             move ! (2 ∷ 3 ∷ []) $ free1 ! $ free0 ! $
@@ -179,5 +185,6 @@ viewed-spec 𝓤 H 𝓜 𝓖 𝓡 =
     (viewed-meets 𝓤 H (𝓖 .A) (𝓜 .mem) (𝓡 .run) (givenOf 𝓤 H 𝓜 𝓖) (tablesOf 𝓤 H 𝓜 (tables 𝓤 H 𝓜 𝓡 code.env))
     (cited 𝓤 H (Makes 𝓤 H (𝓖 .A) (𝓜 .mem) (𝓡 .run)) 𝓜 𝓡 code.env #view-of view-of-def.routine code.calls-view·view-of
     (view-of-thm.met 𝓤 H 𝓜 𝓖 𝓡))
-    (cited 𝓤 H (Looks 𝓤 H (𝓖 .A) (𝓜 .mem) (𝓡 .run)) 𝓜 𝓡 code.env #look-up look-up-def.routine code.calls-view·View·look-up
+    (cited 𝓤 H (Looks 𝓤 H (𝓖 .A) (𝓜 .mem) (𝓡 .run)) 𝓜 𝓡 code.env #look-up look-up-def.routine
+    code.calls-view·View·look-up
     (look-up-thm.met 𝓤 H 𝓜 𝓖 𝓡)))

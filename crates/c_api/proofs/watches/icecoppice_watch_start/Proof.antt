@@ -3,16 +3,17 @@ use mathlib.Core.Path.{_≡_, ap, sym, _∙_}
 use borrow.Author.Needs.{needs}
 use mir.Facts.{toZ-ofZ}
 use Rattle.rule.specs.Rule.{shaped}
-use Rattle.watch.specs.Promise.{started, starting}
-use Rattle.c_api.specs.WatchNumbers.{startOf}
+use Rattle.watch.specs.Start.{meaning, starting}
+use Rattle.c_api.specs.WatchNumbers.{startNumbers}
 use Rattle.c_api.proofs.watches.icecoppice_watch_start.Statement.{statement}
 use Rattle.c_api.proofs.watches.icecoppice_watch_start.Tie as tie
 
 start-requires : tie.Need-start-requires
 start-requires c κs = search needs
 
-told : (c : tie.After-start) → let args = c .before .args in started (c .start .result) ≡ starting (args .k) (shaped (args .len) (args .h))
-told c = simp (toZ-ofZ, c .before .fits .k) at (c .start .ensures)
+start-is : (c : tie.After-start) → let args = c .before .args in
+    meaning (c .start .result) ≡ starting (args .k) (shaped (args .len) (args .h))
+start-is c = simp (toZ-ofZ, c .before .fits .k) at (c .start .ensures)
 
 enum-known-started : tie.Need-enum-known-started
 enum-known-started c = search needs
@@ -27,13 +28,13 @@ no-watch-requires : tie.Need-no-watch-requires
 no-watch-requires c κs = search needs
 
 returns : tie.Need-returns
-returns c = ap startOf (sym (ap started (c .before .started .given .1)) ∙ told (c .before .before .before))
+returns c = ap startNumbers (sym (ap meaning (c .before .started .given .1)) ∙ start-is (c .before .before .before))
 
 returns-2 : tie.Need-returns-2
 returns-2 c =
-    let k = c .before .before .before in
+    let point = c .before .before .before in
     rw (c .before .number .ensures, c .no-watch .ensures)
-    (ap startOf (sym (ap started (k .started2 .given .1)) ∙ told (k .before .before)))
+    (ap startNumbers (sym (ap meaning (point .started2 .given .1)) ∙ start-is (point .before .before)))
 
 pub icecoppice-watch-start-spec : {M : Type 1} → statement M
 icecoppice-watch-start-spec =

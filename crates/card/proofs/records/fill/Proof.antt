@@ -1,4 +1,4 @@
--- `card::records::fill` meets its contract: a turn fills one place of each slice (`Filling`).
+-- `card::records::fill` meets its contract: each turn of the loop fills one place of each slice (`FillLoop`).
 use Prim.Native.Nat.{_+_, _-_, _*_, _≤_}
 use native.Mathlib.Omega.{arith}
 use mathlib.Core.Path.{_≡_, ap, _∙_}
@@ -8,7 +8,7 @@ use mir.Syntax.{w32}
 use mir.Val.{SFits}
 use Rattle.form1.proofs.Opening.{slot-at}
 use Rattle.form1.specs.Form1.{rangeOf}
-use Rattle.card.proofs.Filling.{Filled, start, turn}
+use Rattle.card.proofs.FillLoop.{Filled, filled-start, filled-step}
 use Rattle.card.proofs.records.fill.Statement.{statement}
 use Rattle.card.proofs.records.fill.Tie as tie
 
@@ -22,7 +22,7 @@ abbrev μ-loop : tie.MeasureT-loop
 μ-loop file start n lowest₀ highest₀ slot₀ lowest highest slot = n - slot
 
 loop-holds : tie.Need-loop-holds Inv-loop μ-loop
-loop-holds c = (start, start, omega arith)
+loop-holds c = (filled-start, filled-start, omega arith)
 
 mul-range-at : tie.Need-mul-range-at Inv-loop μ-loop
 mul-range-at c = search needs
@@ -62,8 +62,8 @@ loop-again c =
     let there = slot-at (given .args .file .now) slot _ (ap (λ s. s + 8 * slot) (given .pre .0 .0)) (omega arith) in
     let is = read .range-at .ensures ∙ there in
     rw (toZ-ofZ low, toZ-ofZ high) (
-      turn (omega arith) (ap (λ r. r .lowest) is) (at .loop .inv .0),
-      turn (omega arith) (ap (λ r. r .highest) is) (at .loop .inv .1),
+      filled-step (omega arith) (ap (λ r. r .lowest) is) (at .loop .inv .0),
+      filled-step (omega arith) (ap (λ r. r .highest) is) (at .loop .inv .1),
       omega arith,
     )
 

@@ -1,10 +1,10 @@
--- `cases::cards::file` is safe: a file that is read has no more slots than a plan may have.
+-- `cases::cards::file` is safe: a file that the reader takes has no more slots than a plan may have.
 use Prim.Native.Nat.{_≤_}
 use native.Mathlib.Omega.{arith}
 use mathlib.Core.Path.{sym, ap, _∙_}
 use borrow.Author.Needs.{needs}
-use Rattle.card.proofs.Agreeing.{few-slots}
-use Rattle.card.specs.Reading.{told}
+use Rattle.card.proofs.LookUpAgrees.{few-slots}
+use Rattle.card.specs.Reading.{meaning}
 use Rattle.settings.specs.Refusals.{limit}
 use Rattle.cases.proofs.cards.file.Statement.{statement}
 use Rattle.cases.proofs.cards.file.Tie as tie
@@ -21,17 +21,17 @@ read-requires c κs = search needs
 enum-known-refusal : tie.Need-enum-known-refusal
 enum-known-refusal c = search needs
 
-refused-requires : tie.Need-refused-requires
-refused-requires c κs = search needs
+write-refusal-requires : tie.Need-write-refusal-requires
+write-refusal-requires c κs = search needs
 
-line-feed-requires : tie.Need-line-feed-requires
-line-feed-requires c κs = search needs
+write-line-feed-requires : tie.Need-write-line-feed-requires
+write-line-feed-requires c κs = search needs
 
 enum-known-settings : tie.Need-enum-known-settings
 enum-known-settings c = search needs
 
-asked-requires : tie.Need-asked-requires
-asked-requires c κs = search needs
+write-settings-requires : tie.Need-write-settings-requires
+write-settings-requires c κs = search needs
 
 slice-aggregate-request : tie.Need-slice-aggregate-request
 slice-aggregate-request c = search needs
@@ -39,18 +39,26 @@ slice-aggregate-request c = search needs
 slice-aggregate-request-2 : tie.Need-slice-aggregate-request-2
 slice-aggregate-request-2 c = search needs
 
--- where the file is taken: what the reader gave
+-- what the reader gave, where the file is taken
 abbrev was-read : tie.After-settings → tie.After-read
 was-read c = c .before .before .before .before
 
 few : (c : tie.After-settings) → c .settings .given .0 .1 .0 ≤ limit
-few c = omega (arith, few-slots _ _ _ (sym (ap (λ o. o .answer) (was-read c .read .ensures)) ∙ ap told (c .settings .given .1)))
+few c =
+    omega (
+      arith,
+      few-slots _ _ _
+          (sym (ap (λ o. o .answer) (was-read c .read .ensures)) ∙ ap meaning (c .settings .given .1)),
+    )
 
 request-requires : tie.Need-request-requires
 request-requires c κs =
     let known = c .before .before .before .before in
-    let read = was-read known .read in
-    (omega (arith, few known, read .kept .1 .0), omega (arith, few known, read .kept .1 .1 .0), omega (arith, few known))
+    let read = was-read known .read in (
+      omega (arith, few known, read .kept .1 .0),
+      omega (arith, few known, read .kept .1 .1 .0),
+      omega (arith, few known),
+    )
 
 returns : tie.Need-returns
 returns c = search needs
@@ -66,10 +74,10 @@ file-spec =
     slice-aggregate-read-2
     read-requires
     enum-known-refusal
-    refused-requires
-    line-feed-requires
+    write-refusal-requires
+    write-line-feed-requires
     enum-known-settings
-    asked-requires
+    write-settings-requires
     slice-aggregate-request
     slice-aggregate-request-2
     request-requires

@@ -1,4 +1,4 @@
--- `cases::cards::records` is safe and ends: it counts up to the places of a plan.
+-- `cases::cards::records` is safe and ends: it counts up to `PLACES`.
 use Prim.Native.Nat.{_-_, _≤_}
 use borrow.Author.Needs.{needs}
 use Rattle.settings.specs.Refusals.{places}

@@ -9,21 +9,21 @@ use Rattle.cases.proofs.filtered.listed.Tie as tie
 buffer-requires : tie.Need-buffer-requires
 buffer-requires c κs = search needs
 
-slice-aggregate-answered : tie.Need-slice-aggregate-answered
-slice-aggregate-answered c = search needs
+slice-aggregate-write-answer : tie.Need-slice-aggregate-write-answer
+slice-aggregate-write-answer c = search needs
 
-answered-requires : tie.Need-answered-requires
-answered-requires c κs = search needs
+write-answer-requires : tie.Need-write-answer-requires
+write-answer-requires c κs = search needs
 
 array-share-prefix-text : tie.Need-array-share-prefix-text
 array-share-prefix-text c = search needs
 
 slice-aggregate-write : tie.Need-slice-aggregate-write
 slice-aggregate-write c =
-    let k = c .before .before in
+    let point = c .before .before in
     sym
-    (length-take-le (k .answered .result) (k .answered .last .1 .1 .1 .1 .0)
-    (omega (arith, k .answered .ensures .0 .ends, k .answered .kept .1 .1 .1 .1 .0)))
+    (length-take-le (point .write-answer .result) (point .write-answer .last .1 .1 .1 .1 .0)
+    (omega (arith, point .write-answer .ensures .0 .ends, point .write-answer .kept .1 .1 .1 .1 .0)))
 
 write-requires : tie.Need-write-requires
 write-requires c κs = search needs
@@ -36,8 +36,8 @@ listed-spec =
     tie.close
     (tie.spec
     buffer-requires
-    slice-aggregate-answered
-    answered-requires
+    slice-aggregate-write-answer
+    write-answer-requires
     array-share-prefix-text
     slice-aggregate-write
     write-requires

@@ -1,4 +1,4 @@
--- `cases::numbers::each_byte` meets its contract: as many bytes as the slice has places for.
+-- `cases::numbers::each_byte` meets its contract: it puts no more bytes than the slice has places for.
 use Prim.Native.Nat.{_-_, _≤_}
 use native.Mathlib.Omega.{arith}
 use mathlib.Core.Path.{_≡_, sym}

@@ -1,4 +1,4 @@
--- `cases::numbers::numbers` meets its contract: the numbers are within the slice, and the place only grows.
+-- `cases::numbers::numbers` meets its contract: the numbers are within the slice, and the place in the line only grows.
 use Prim.Native.Nat.{_-_, _≤_}
 use native.Mathlib.Omega.{arith}
 use mathlib.Core.Path.{_≡_, sym}
@@ -9,13 +9,14 @@ use Rattle.cases.proofs.numbers.numbers.Statement.{statement}
 use Rattle.cases.proofs.numbers.numbers.Tie as tie
 
 abbrev Inv-loop : tie.InvT-loop
-Inv-loop line from base out₀ end count₀ i₀ out count i = (length out ≡ length out₀) × (count ≤ length out) × (end ≤ length line)
+Inv-loop line from base out₀ end count₀ i₀ out count i =
+    (length out ≡ length out₀) × (count ≤ length out) × (end ≤ length line)
 
 abbrev μ-loop : tie.MeasureT-loop
 μ-loop line from base out₀ end count₀ i₀ out count i = end - i
 
-behind-requires : tie.Need-behind-requires Inv-loop μ-loop
-behind-requires c κs = search needs
+after-byte-requires : tie.Need-after-byte-requires Inv-loop μ-loop
+after-byte-requires c κs = search needs
 
 loop-holds : tie.Need-loop-holds Inv-loop μ-loop
 loop-holds c = search needs
@@ -44,7 +45,7 @@ numbers-spec =
     (tie.spec
     Inv-loop
     μ-loop
-    behind-requires
+    after-byte-requires
     loop-holds
     number-at-requires
     put-requires

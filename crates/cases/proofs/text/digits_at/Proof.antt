@@ -1,4 +1,4 @@
--- `cases::text::digits_at` meets its contract: it goes on to the text's end.
+-- `cases::text::digits_at` meets its contract: it goes no further than the text's end.
 use Prim.Native.Nat.{_-_, _≤_}
 use borrow.Author.Needs.{needs}
 use lib.ListN.{length}

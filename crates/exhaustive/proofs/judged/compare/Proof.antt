@@ -10,8 +10,8 @@ Inv-loop n number request loads strings tally₀ string₀ tally string = string
 abbrev μ-loop : tie.MeasureT-loop
 μ-loop n number request loads strings tally₀ string₀ tally string = strings - string
 
-numbered-requires : tie.Need-numbered-requires Inv-loop μ-loop
-numbered-requires c κs = search needs
+sample-request-requires : tie.Need-sample-request-requires Inv-loop μ-loop
+sample-request-requires c κs = search needs
 
 strings-of-requires : tie.Need-strings-of-requires Inv-loop μ-loop
 strings-of-requires c κs = search needs
@@ -43,7 +43,7 @@ compare-spec =
     (tie.spec
     Inv-loop
     μ-loop
-    numbered-requires
+    sample-request-requires
     strings-of-requires
     loop-holds
     bytes-of-requires

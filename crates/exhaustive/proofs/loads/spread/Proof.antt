@@ -30,8 +30,8 @@ mul-loads c = search needs
 array-set-from-loads : tie.Need-array-set-from-loads Inv-loop μ-loop
 array-set-from-loads c = search needs
 
-others-requires : tie.Need-others-requires Inv-loop μ-loop
-others-requires c κs = search needs
+higher-digits-requires : tie.Need-higher-digits-requires Inv-loop μ-loop
+higher-digits-requires c κs = search needs
 
 next-requires : tie.Need-next-requires Inv-loop μ-loop
 next-requires c κs = search needs
@@ -60,7 +60,7 @@ spread-spec =
     load-requires
     mul-loads
     array-set-from-loads
-    others-requires
+    higher-digits-requires
     next-requires
     add-i
     loop-less

@@ -1,4 +1,4 @@
--- `exhaustive::numbers::digit` is at most the highest digit.
+-- `exhaustive::numbers::digit` gives at most the highest digit.
 use Prim.Native.Nat.{_+_}
 use native.Mathlib.Nat.{mod-lt}
 use native.Mathlib.Omega.{arith}

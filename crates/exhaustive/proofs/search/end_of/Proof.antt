@@ -1,4 +1,4 @@
--- `exhaustive::search::end_of` is after the first slot and within the slots.
+-- `exhaustive::search::end_of` gives a slot after the first one, and at most n.
 use Prim.Native.Nat.{_≤_, _-_, _<_}
 use borrow.Author.Needs.{needs}
 use Rattle.exhaustive.proofs.search.end_of.Statement.{statement}

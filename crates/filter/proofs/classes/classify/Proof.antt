@@ -1,4 +1,5 @@
--- `filter::classes::classify` meets its contract. The loop's invariant: the slots before i have their classes (`Classed`).
+-- `filter::classes::classify` meets its contract. The loop's invariant: the slots before i have
+-- their classes (`Classed`).
 use Prim.Native.Nat.{_-_}
 use native.Mathlib.Omega.{arith}
 use borrow.Author.Needs.{needs}
@@ -6,7 +7,7 @@ use lib.ListN.{length}
 use mir.Facts.{toZ-ofZ}
 use mir.Syntax.{w32}
 use mir.Val.{SFits, toZ}
-use Rattle.filter.proofs.Classing.{Classed, none-classed, one-classed, all-classed}
+use Rattle.filter.proofs.ClassifyLoop.{Classed, classed-start, classed-step, classed-end}
 use Rattle.requests.specs.Request.{at}
 use Rattle.filter.proofs.classes.classify.Statement.{statement}
 use Rattle.filter.proofs.classes.classify.Tie as tie
@@ -18,7 +19,7 @@ abbrev μ-loop : tie.MeasureT-loop
 μ-loop k lowest highest codes₀ i₀ codes i = length lowest - i
 
 loop-holds : tie.Need-loop-holds Inv-loop μ-loop
-loop-holds c = none-classed
+loop-holds c = classed-start
 
 mul-t7 : tie.Need-mul-t7 Inv-loop μ-loop
 mul-t7 c = search needs
@@ -50,13 +51,14 @@ loop-again c =
     let loop = c .before .before .before .before .loop in
     let lo : SFits w32 (at (args .lowest .now) (loop .i)) = record { sfits = c .before .before .t10 .given } in
     let hi : SFits w32 (at (args .highest .now) (loop .i)) = record { sfits = c .before .t13 .given } in
-    one-classed (omega arith) (loop .codes) (loop .i) (loop .inv) _ (omega arith) (simp (toZ-ofZ, lo, hi) at (c .class-of .ensures))
+    classed-step (omega arith) (loop .codes) (loop .i) (loop .inv) _ (omega arith)
+    (simp (toZ-ofZ, lo, hi) at (c .class-of .ensures))
 
 returns : tie.Need-returns Inv-loop μ-loop
 returns c =
     let loop = c .before .loop in
     rw (← toZ-ofZ (c .before .before .fits .k))
-    (all-classed (omega arith) (loop .codes) (loop .i) (loop .inv) (omega arith) (omega arith))
+    (classed-end (omega arith) (loop .codes) (loop .i) (loop .inv) (omega arith) (omega arith))
 
 pub classify-spec : {M : Type 1} → statement M
 classify-spec =

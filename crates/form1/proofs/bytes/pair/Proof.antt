@@ -1,7 +1,7 @@
--- `form1::bytes::pair` meets its contract: two bytes, the least first (`Numbers`).
+-- `form1::bytes::pair` meets its contract: it reads two bytes, the least significant first (`NumberAt`).
 use native.Mathlib.Omega.{arith}
 use borrow.Author.Needs.{needs}
-use Rattle.form1.proofs.Numbers.{two}
+use Rattle.form1.proofs.NumberAt.{numberAt-2}
 use Rattle.form1.proofs.bytes.pair.Statement.{statement}
 use Rattle.form1.proofs.bytes.pair.Tie as tie
 
@@ -31,7 +31,7 @@ returns c =
     let args = c .before .before .before .before .before .args in
     let low = c .before .before .wide .ensures in
     let high = c .wide2 .ensures in
-    (rw (low .0, high .0) (two (args .file .now) (args .place) (omega arith)), omega arith)
+    (rw (low .0, high .0) (numberAt-2 (args .file .now) (args .place) (omega arith)), omega arith)
 
 pub pair-spec : {M : Type 1} → statement M
 pair-spec =

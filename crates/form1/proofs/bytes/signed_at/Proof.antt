@@ -1,4 +1,4 @@
--- `form1::bytes::signed_at` meets its contract: a word, read as signed.
+-- `form1::bytes::signed_at` meets its contract: it is a word, read as a signed number.
 use mathlib.Core.Path.{refl}
 use borrow.Author.Needs.{needs}
 use mir.Facts.{toZ-ofZ}

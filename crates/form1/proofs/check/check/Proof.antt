@@ -1,7 +1,7 @@
--- `form1::check::check` meets its contract: the rows are met in their order (`Table` of the crate `refusals`).
+-- `form1::check::check` meets its contract: the refusals are tested in their order (`Table` of the crate `refusals`).
 use borrow.Author.Needs.{needs}
 use Rattle.refusals.proofs.Table.{rows}
-use Rattle.form1.proofs.Passing.{long-enough}
+use Rattle.form1.proofs.WholeFile.{long-enough}
 use Rattle.form1.specs.Form1
 use Rattle.form1.proofs.check.check.Statement.{statement}
 use Rattle.form1.proofs.check.check.Tie as tie

@@ -1,4 +1,4 @@
--- `form1::check::wrong_form` meets its contract: its tests are the row's.
+-- `form1::check::wrong_form` meets its contract: its test is the one of `wrongForm`.
 use mathlib.Core.Path.{refl}
 use borrow.Author.Needs.{needs}
 use Rattle.form1.specs.Form1

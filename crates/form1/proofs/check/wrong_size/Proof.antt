@@ -1,5 +1,5 @@
--- `form1::check::wrong_size` meets its contract: its tests are the row's.
-use Rattle.facts.proofs.Rules.{rules}
+-- `form1::check::wrong_size` meets its contract: its tests are those of `wrongSize`.
+use Rattle.facts.proofs.Tests.{rules}
 use Rattle.form1.specs.Form1
 use Rattle.form1.proofs.check.wrong_size.Statement.{statement}
 use Rattle.form1.proofs.check.wrong_size.Tie as tie

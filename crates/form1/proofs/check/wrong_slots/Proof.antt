@@ -1,6 +1,6 @@
--- `form1::check::wrong_slots` meets its contract: its tests are the row's.
+-- `form1::check::wrong_slots` meets its contract: its tests are those of `wrongSlots`.
 use borrow.Author.Needs.{needs}
-use Rattle.facts.proofs.Rules.{rules}
+use Rattle.facts.proofs.Tests.{rules}
 use Rattle.form1.specs.Form1
 use Rattle.form1.proofs.check.wrong_slots.Statement.{statement}
 use Rattle.form1.proofs.check.wrong_slots.Tie as tie

@@ -1,4 +1,4 @@
--- `form1::fields::distance` meets its contract: a pair.
+-- `form1::fields::distance` meets its contract: it is a number of two bytes, which `pair` reads.
 use borrow.Author.Needs.{needs}
 use Rattle.form1.specs.Form1
 use Rattle.form1.proofs.fields.distance.Statement.{statement}

@@ -1,4 +1,4 @@
--- `form1::fields::settings` meets its contract: each field from its place.
+-- `form1::fields::settings` meets its contract: each field is read from its place.
 use mathlib.Core.Path.{refl}
 use borrow.Author.Needs.{needs}
 use mir.Facts.{toZ-ofZ}
@@ -38,11 +38,11 @@ counts-requires-2 c κs = search needs
 returns : tie.Need-returns
 unfolding Form1.settings
 returns c =
-    let k = c .before .before .before .before in
-    let fits : SFits w32 (k .signed-at .result) = record { sfits = k .signed-at .ok } in
+    let point = c .before .before .before .before in
+    let fits : SFits w32 (point .signed-at .result) = record { sfits = point .signed-at .ok } in
     rw (
       toZ-ofZ fits,
-      k .signed-at .ensures,
+      point .signed-at .ensures,
       c .before .before .before .byte .ensures,
       c .before .before .byte2 .ensures,
       c .before .counts .ensures,

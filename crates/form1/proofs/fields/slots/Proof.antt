@@ -1,4 +1,4 @@
--- `form1::fields::slots` meets its contract: a byte.
+-- `form1::fields::slots` meets its contract: it is one byte.
 use borrow.Author.Needs.{needs}
 use Rattle.form1.specs.Form1
 use Rattle.form1.proofs.fields.slots.Statement.{statement}

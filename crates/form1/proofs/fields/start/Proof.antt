@@ -1,4 +1,4 @@
--- `form1::fields::start` meets its contract: back from the file's end.
+-- `form1::fields::start` meets its contract: it counts back from the file's end.
 use borrow.Author.Needs.{needs}
 use Rattle.form1.proofs.fields.start.Statement.{statement}
 use Rattle.form1.proofs.fields.start.Tie as tie

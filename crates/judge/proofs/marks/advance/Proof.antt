@@ -1,30 +1,31 @@
 -- `judge::marks::advance` meets its contract: an answer for each arm.
 use borrow.Author.Needs.{needs}
-use Rattle.facts.proofs.Rules.{rules}
-use Rattle.rule.specs.Reading
+use Rattle.facts.proofs.Tests.{rules}
+use Rattle.rule.specs.ScanState
 use Rattle.judge.proofs.marks.advance.Statement.{statement}
 use Rattle.judge.proofs.marks.advance.Tie as tie
 
 returns : tie.Need-returns
-unfolding Reading.slotsAfter Reading.bridgesAfter
+unfolding ScanState.slotsAfter ScanState.bridgesAfter
 returns c = rw (c .match .keys1)
 
 returns-2 : tie.Need-returns-2
-unfolding Reading.slotsAfter Reading.bridgesAfter
+unfolding ScanState.slotsAfter ScanState.bridgesAfter
 returns-2 c = rw (c .match .keys2)
 
 returns-3 : tie.Need-returns-3
-unfolding Reading.slotsAfter Reading.bridgesAfter
+unfolding ScanState.slotsAfter ScanState.bridgesAfter
 returns-3 c = rw (c .before .match .keys3)
 
 returns-4 : tie.Need-returns-4
-unfolding Reading.slotsAfter Reading.bridgesAfter
+unfolding ScanState.slotsAfter ScanState.bridgesAfter
 returns-4 c = rw (c .before .before .match .keys4)
 
 returns-5 : tie.Need-returns-5
-unfolding Reading.slotsAfter Reading.bridgesAfter
+unfolding ScanState.slotsAfter ScanState.bridgesAfter
 returns-5 c = search rules
 
 pub advance-spec : {M : Type 1} → statement M
 advance-spec =
-    tie.close (tie.spec (λ c. search needs) (λ c. search needs) (λ c. search needs) returns returns-2 returns-3 returns-4 returns-5)
+    tie.close (tie.spec (λ c. search needs) (λ c. search needs) (λ c. search needs) returns returns-2 returns-3
+    returns-4 returns-5)

@@ -1,5 +1,5 @@
 -- `judge::marks::goes_with` meets its contract: its tests are the definition's.
-use Rattle.facts.proofs.Rules.{rules}
+use Rattle.facts.proofs.Tests.{rules}
 use Rattle.rule.specs.Rule
 use Rattle.judge.proofs.marks.goes_with.Statement.{statement}
 use Rattle.judge.proofs.marks.goes_with.Tie as tie

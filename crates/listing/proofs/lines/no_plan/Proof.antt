@@ -2,12 +2,12 @@
 use borrow.Author.Needs.{needs}
 use Rattle.listing.proofs.Fields.{fields}
 use Rattle.listing.proofs.Lengths.{no-plan-short}
-use Rattle.listing.specs.Text.{said}
+use Rattle.listing.specs.Text.{answerText}
 use Rattle.listing.proofs.lines.no_plan.Statement.{statement}
 use Rattle.listing.proofs.lines.no_plan.Tie as tie
 
 returns : tie.Need-returns
-unfolding said
+unfolding answerText
 returns c = (search fields, no-plan-short)
 
 pub no-plan-spec : {M : Type 1} → statement M

@@ -1,12 +1,12 @@
--- `listing::put::decimal`, which calls itself, meets its contract: one digit, or those of the tenth and one more (`Decimals`).
--- The measure is the number.
+-- `listing::put::decimal`, which calls itself, meets its contract: one digit, or the digits of n / 10 and one more
+-- (`Decimals`). The measure is n.
 use Prim.Native.Nat.{ℕ, _<_}
 use native.Mathlib.Omega.{arith}
 use borrow.Author.Needs.{needs}
 use borrow.Fn.Kinds.{In}
 use borrow.Fn.PlainCycle.{Measures, is, falls, and}
 use Rattle.listing.proofs.Decimals.{one-digit, more-digits}
-use Rattle.listing.proofs.Writing.{then}
+use Rattle.listing.proofs.Written.{written-append}
 use Rattle.listing.proofs.put.decimal.Reads as decimal
 use Rattle.listing.proofs.put.decimal.Kinds as decimal-kinds
 use Rattle.listing.proofs.put.+decimal.Lts-decimal as decimal-lts
@@ -18,7 +18,8 @@ abbrev μ-decimal : Measures 1 decimal-kinds.ps ℕ
 μ-decimal κs a = a .0
 
 module _ (t : ℕ) where
-  -- what it is given at the measure t, what a call of it asks below t, and the contracts of both calls
+  -- what holds where `decimal` is called with the measure t, what its own call needs below t, and the contracts of
+  -- both calls
   abbrev given : In 1 decimal-kinds.ps
   given = and 1 decimal-kinds.ps (is 1 decimal-kinds.ps μ-decimal t) decimal.Pre
 
@@ -64,7 +65,7 @@ module _ (t : ℕ) where
   returns-2 c =
       let tenth = c .before .before .before .before .before .before in
       let n = tenth .before .before .before .before .args .n in
-      rw (more-digits n (omega arith)) (then (tenth .decimal .ensures) (c .before .before .byte2 .ensures))
+      rw (more-digits n (omega arith)) (written-append (tenth .decimal .ensures) (c .before .before .byte2 .ensures))
 
 pub +decimal-spec : {M : Type 1} → statement M
 +decimal-spec =

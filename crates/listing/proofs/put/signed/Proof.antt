@@ -2,8 +2,8 @@
 use native.Mathlib.Omega.{arith}
 use borrow.Author.Needs.{needs}
 use Rattle.facts.proofs.Signs.{Negative, NotNegative, negative, not-negative}
-use Rattle.listing.proofs.Signs.{with-minus, without}
-use Rattle.listing.proofs.Writing.{then}
+use Rattle.listing.proofs.Signs.{with-minus, without-minus}
+use Rattle.listing.proofs.Written.{written-append}
 use Rattle.listing.proofs.put.signed.Statement.{statement}
 use Rattle.listing.proofs.put.signed.Tie as tie
 
@@ -23,13 +23,14 @@ add-number c = let n = below (c .before .before .before .before) in omega arith
 returns : tie.Need-returns
 returns c =
     let byte = c .before .before .before .before .before .before in
-    rw (with-minus (below (byte .before .before) .2)) (then (byte .byte .ensures) (c .before .before .number .ensures))
+    rw (with-minus (below (byte .before .before) .2))
+    (written-append (byte .byte .ensures) (c .before .before .number .ensures))
 
 cast-number-2 : tie.Need-cast-number-2
 cast-number-2 c = let n = above c in (n .0, omega arith)
 
 returns-2 : tie.Need-returns-2
-returns-2 c = rw (without (above (c .before .before .before .before) .2)) (c .before .before .number2 .ensures)
+returns-2 c = rw (without-minus (above (c .before .before .before .before) .2)) (c .before .before .number2 .ensures)
 
 pub signed-spec : {M : Type 1} → statement M
 signed-spec =

@@ -1,24 +1,24 @@
--- `listing::put::word` meets its contract. The loop's invariant: the bytes from number i on are left, and the one that ends the
--- field (`Left`).
+-- `listing::put::word` meets its contract. The loop's invariant: the bytes from number i on and the byte that ends
+-- the field are left to write (`LeftToWrite`).
 use Prim.Native.Nat.{_-_}
 use native.Mathlib.Omega.{arith}
 use mathlib.Core.List.{[], _∷_, _++_}
 use mathlib.Core.Path.{_∙_}
 use borrow.Author.Needs.{needs}
 use lib.ListN.{length, drop}
-use Rattle.listing.proofs.Writing.{Left, all-left, byte-less, none-left, left-length, written-length}
+use Rattle.listing.proofs.Written.{LeftToWrite, left-start, left-byte, left-end, left-length, written-length}
 use Rattle.listing.proofs.put.word.Statement.{statement}
 use Rattle.listing.proofs.put.word.Tie as tie
 
 abbrev Inv-loop : tie.InvT-loop
-Inv-loop text end out₀ place behind₀ i₀ out behind i =
-    Left (text ++ (end ∷ [])) place out₀ (drop i text ++ (end ∷ [])) out behind
+Inv-loop text end out₀ place next₀ i₀ out next i =
+    LeftToWrite (text ++ (end ∷ [])) place out₀ (drop i text ++ (end ∷ [])) out next
 
 abbrev μ-loop : tie.MeasureT-loop
-μ-loop text end out₀ place behind₀ i₀ out behind i = length text - i
+μ-loop text end out₀ place next₀ i₀ out next i = length text - i
 
 loop-holds : tie.Need-loop-holds Inv-loop μ-loop
-loop-holds c = all-left
+loop-holds c = left-start
 
 shared-slice-read-byte : tie.Need-shared-slice-read-byte Inv-loop μ-loop
 shared-slice-read-byte c = search needs
@@ -35,7 +35,7 @@ loop-less c = search needs
 loop-again : tie.Need-loop-again Inv-loop μ-loop
 loop-again c =
     let loop = c .before .before .before .before .before .before .loop in
-    byte-less _ _ (loop .i) (loop .inv) (omega arith) (c .before .before .byte .ensures)
+    left-byte _ _ (loop .i) (loop .inv) (omega arith) (c .before .before .byte .ensures)
 
 byte-requires-2 : tie.Need-byte-requires-2 Inv-loop μ-loop
 byte-requires-2 c κs = search needs
@@ -48,7 +48,7 @@ same-length c =
 returns : tie.Need-returns Inv-loop μ-loop
 returns c =
     let loop = c .before .before .before .before .before .loop in
-    none-left _ _ (loop .i) (loop .inv) (omega arith) .whole _ _ (c .before .before .byte2 .ensures)
+    left-end _ _ (loop .i) (loop .inv) (omega arith) .whole _ _ (c .before .before .byte2 .ensures)
 
 pub word-spec : {M : Type 1} → statement M
 word-spec =

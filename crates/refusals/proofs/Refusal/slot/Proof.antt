@@ -34,7 +34,7 @@ none-carried (Crossed i) n = absurd (n refl)
 none-carried Unreached n = refl
 none-carried Full n = refl
 
--- the variants but that of 31, by their places
+-- the positions of all variants but that of 31
 abbrev others : List ℕ
 others = 0 ∷ 1 ∷ 2 ∷ 3 ∷ 4 ∷ 5 ∷ 6 ∷ 7 ∷ 8 ∷ 9 ∷ 10 ∷ 11 ∷ 12 ∷ 13 ∷ 15 ∷ 16 ∷ []
 

@@ -6,11 +6,11 @@ use mir.Syntax.{w32}
 use mir.Val.{SFits}
 use Rattle.rule.proofs.Classes.{class-over, class-either, class-under}
 use Rattle.rule.specs.Rule.{over}
-use Rattle.rule.specs.Codes.{code}
+use Rattle.rule.specs.ClassCodes.{code}
 use Rattle.rule.proofs.codes.class_of.Statement.{statement}
 use Rattle.rule.proofs.codes.class_of.Tie as tie
 
--- both ends are loads of 32 bits
+-- both ends of a range are loads of 32 bits
 low : (c : tie.After-over) → let s = c .before .before in over (s .args .k) (s .args .range .lowest) ≡ c .over .result
 low c =
     let s = c .before .before in

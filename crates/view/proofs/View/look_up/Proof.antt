@@ -1,5 +1,6 @@
--- `view::View::look_up`, a method, meets its contract: a walk of its MIR, by hand. The view is taken apart, and the
--- function of the same name is called on its slice. All that the proof knows of that function is that it meets its contract.
+-- `view::View::look_up`, a method, meets its contract: a walk of its MIR, by hand. The slice is taken out of the
+-- view, and the function of the same name is called on it. All that the proof knows of that function is that it meets
+-- its contract.
 use mathlib.Core.Path.{_≡_, refl}
 use Prim.Native.Nat.{ℕ, _<_, _^_}
 use mathlib.Core.List.{[], _∷_}
@@ -17,9 +18,11 @@ use ghost.Atoms.{Atoms}
 use contract.Lifetimes.{Lfts}
 use contract.Monad.{Fun}
 use contract.Running.{givenOf, tables, tablesOf}
-use types.Kit.{Given, Item, ‵, raw, _⊛_, given, ⋆, _$_, _∵_, !, qed, by, move, drop, use1, split, join, learn, fsplit, fjoin, suffices, frame, done}
+use types.Kit.{Given, Item, ‵, raw, _⊛_, given, ⋆, _$_, _∵_, !, qed, by, move, drop, use1, split, join, learn, fsplit}
+use types.Kit.{fjoin, suffices, frame, done}
 use types.Part.{whole, sub, look-in}
-use types.Run.{look, init, forget, stop, fld, from, load, of-opd, and-then, no-more, assigns, land, returns, enter, alloc1, alloc0, params1, pass1, pass0, free1, free0}
+use types.Run.{look, init, forget, stop, fld, from, load, of-opd, and-then, no-more, assigns, land, returns, enter}
+use types.Run.{alloc1, alloc0, params1, pass1, pass0, free1, free0}
 use sound.WpLaws.{FmC, fmOf, WpFn-mono}
 use denote.RattleType.{RattleType, owns}
 use denote.Laws.{Is, shows}
@@ -41,8 +44,8 @@ use denote.Triple.Spec.{Meets, tripleOf}
 use denote.Triple.Table.{entered, cited}
 use denote.Triple.Walked.{says, Stays, stay-dropped, walkOf, goes-dropped, ends-at, walked, walk-meets}
 use denote.Exit.{yes}
-use Rattle.view.proofs.Viewing.{answers}
-use Rattle.card.specs.Reading.{shown, looking}
+use Rattle.view.proofs.AfterCall.{answers}
+use Rattle.card.specs.LookUp.{meaning, looking}
 use Rattle.view.specs.declared.View.{View}
 use Rattle.card.specs.declared.Found.{Found}
 use Rattle.view.proofs.View as T
@@ -68,7 +71,7 @@ B κs = T.the-row (namedLft 1 0 tt κs)
 abbrev L : (κs : Lfts 1) → LL.Laws (D κs)
 L κs = T′.the-laws (namedLft 1 0 tt κs)
 
--- nothing is said of the view or of a number at exit, so nothing is kept of them
+-- the contract says nothing of the view or of a number at exit, so nothing is kept of them
 abbrev stayed : Stays (look-up.ended .signature .params) (look-up.ended .kept)
 stayed = (stay-dropped (plain B) yes, (stay-dropped (plain (λ _. usize)) yes, tt))
 
@@ -112,12 +115,14 @@ module _ {M : Type 1} (𝓤 : URA M) (H : Heap 𝓤) (A : Atoms 𝓤) (mem : Mem
           move ! (1 ∷ []) $ drop ! $ fjoin ! $ move ! (1 ∷ 0 ∷ []) $ join ! $ frame ! $ done !)
 
       abbrev Looked : Found → Type 0
-      Looked r = shown r ≡ looking slot (now (d .file))
+      Looked r = meaning r ≡ looking slot (now (d .file))
 
-      exits : (r : Found) (u : Val) → Looked r → ent 𝓤 (⋆ 𝓤 H A (‵ (F.the-row .own r (u ∷ [])) ∷ token ∷ [])) (Walked .post here u)
+      exits : (r : Found) (u : Val) → Looked r → ent 𝓤 (⋆ 𝓤 H A (‵ (F.the-row .own r (u ∷ [])) ∷ token ∷ []))
+          (Walked .post here u)
       exits r u e =
           qed W (‵ (F.the-row .own r (u ∷ [])) ∷ token ∷ []) ∵
-          suffices ! _ (ends-at 𝓤 H A look-up.ended stayed clauses W here u r (tt, (tt, tt)) (tt, (tt, tt))) $ says ! e $
+          suffices ! _ (ends-at 𝓤 H A look-up.ended stayed clauses W here u r (tt, (tt, tt)) (tt, (tt, tt))) $ says ! e
+          $
           move ! (1 ∷ []) $ frame ! $ nothing ! $ nothing ! $ fjoin ! $ nothing ! $ fjoin ! $ frame ! $ done !
 
       module _ (C : Calls 𝓤 H) (Λ : Loops 𝓤 H) (fm : FmC 𝓤 H (W .laws) C) (meets : Triple 𝓤 (C #called) Called) where
@@ -128,15 +133,16 @@ module _ {M : Type 1} (𝓤 : URA M) (H : Heap 𝓤) (A : Atoms 𝓤) (mem : Mem
             qed W (raw (Walked .pre here) ∷ []) ∵ enter ! C Λ code.function (Walked .args here) _ $
             alloc1 ! (λ l₀. alloc1 ! (λ l₁. alloc1 ! (λ l₂. alloc1 ! (λ l₃. alloc0 ! $
             params1 ! $ pass1 ! (init ! 4 refl typed) $ pass1 ! (init ! 2 refl (tt, record { fits = fits })) $ pass0 ! $
-            -- [room for _3; …; _2; …; _1; …; room for _0; …; what there is on entry]
-            assigns ! (of-opd ! (load ! (from ! (fld ! refl (stop !))) (look-in ! 4 (sub ! 0 refl (whole !))))) (from ! (stop !))
+            -- [memory for _3; …; _2; …; _1; …; memory for _0; …; what there is on entry]
+            assigns ! (of-opd ! (load ! (from ! (fld ! refl (stop !))) (look-in ! 4 (sub ! 0 refl (whole !)))))
+            (from ! (stop !))
             (init ! 0 refl (tt, typed .1 .0)) $
             move ! (8 ∷ []) $ use1 W (raw (Called .pre there)) goes $
-            -- [what is asked; _3; …; _2; …; _1; …; room for _0; …]
+            -- [what is asked; _3; …; _2; …; _1; …; memory for _0; …]
             calls-at ! fm Called meets there (and-then ! (load ! (from ! (stop !)) (look ! 1 refl))
             (and-then ! (load ! (from ! (stop !)) (look ! 3 refl)) (no-more !))) (λ u.
             answers ! called.ended (called.clauses 𝓤 H A mem run) there u Looked (λ r e. refl) tt (λ r e.
-            -- [the result; the token; _3; …; _2; …; _1; …; room for _0; …]
+            -- [the result; the token; _3; …; _2; …; _1; …; memory for _0; …]
             peeks ! F.the-row (Is F.the-row) (shows 𝓤 H A F.the-row) r (u ∷ []) (λ is.
             land ! (from ! (stop !)) (init ! 8 refl (EL.lawful F.the-type F′.the-laws 𝓤 H A W tt .typed r _ is .0)) $
             returns ! (look ! 8 refl) $ forget ! 2 refl $ forget ! 4 refl $ forget ! 6 refl $ forget ! 8 refl $

@@ -15,8 +15,9 @@ returns c = (λ e. inl (c .if1 .taken), λ o. refl)
 
 side : (c : tie.After-over) → c .over .result ≡ over (c .before .before .before .before .args .self .k) highest
 side c =
-    let k : SFits w32 (c .before .before .before .before .args .self .k) = record { sfits = c .before .struct-told .given .0 .1 } in
-    simp (toZ-ofZ, k) at (c .over .ensures)
+    let k-fits : SFits w32 (c .before .before .before .before .args .self .k) =
+    record { sfits = c .before .struct-told .given .0 .1 } in
+    simp (toZ-ofZ, k-fits) at (c .over .ensures)
 
 returns-2 : tie.Need-returns-2
 returns-2 c = rw (side c) (λ e. inr e, ⊎-elim (λ none. absurd (c .before .before .if1 .left none)) (λ o. o))

@@ -1,4 +1,4 @@
--- `watch::Watch::step` meets its contract: each way through it keeps the promise (`Stepping`).
+-- `watch::Watch::step` meets its contract: each way through it keeps the promise (`StepAnswers`).
 use Prim.Native.Nat.{_<_}
 use native.Mathlib.Omega.{arith}
 use mathlib.Core.Bool.{true≢false}
@@ -8,10 +8,10 @@ use borrow.Author.Tests.{not-true, not-false}
 use mir.Facts.{toZ-ofZ}
 use mir.Syntax.{w32}
 use mir.Val.{SFits}
-use Rattle.watch.proofs.Reaching.{reached→sound}
-use Rattle.watch.proofs.Stepping.{refuses-32, refuses-33, takes-it}
-use Rattle.watch.proofs.Testing.{ready}
-use Rattle.watch.specs.States.{most, Reached}
+use Rattle.watch.proofs.ReachedIsTested.{reached→tested}
+use Rattle.watch.proofs.StepAnswers.{refuses-32, refuses-33, takes-load}
+use Rattle.watch.proofs.StateTests.{tested→ready}
+use Rattle.watch.specs.States.{maxTaken, Reached}
 use Rattle.watch.proofs.Watch.step.Statement.{statement}
 use Rattle.watch.proofs.Watch.step.Tie as tie
 
@@ -29,17 +29,19 @@ returns-2 c =
     let (same, is) = c .refused2 .ensures in
     refuses-33 _ _ _ (reached (c .before .before .before)) (c .before .if2 .taken) same is
 
-more : (c : tie.Else2) → c .before .before .before .before .args .self .taken < most
-more c = omega (arith, reached→sound _ (reached (c .before .before)) .few, c .if2 .left)
+more : (c : tie.Else2) → c .before .before .before .before .args .self .taken < maxTaken
+more c = omega (arith, reached→tested _ (reached (c .before .before)) .few, c .if2 .left)
 
 after-requires : tie.Need-after-requires
-after-requires c κs = ready (reached→sound _ (reached (c .before .before))) (more c)
+after-requires c κs = tested→ready (reached→tested _ (reached (c .before .before))) (more c)
 
 returns-3 : tie.Need-returns-3
 returns-3 c =
     let e = c .before .before .before in
-    let load : SFits w32 (e .before .before .before .before .args .load) = e .before .before .before .before .fits .load in
-    takes-it _ _ _ load (reached (e .before .before)) (more e) (simp (toZ-ofZ, load) at (c .before .before .after .ensures)) refl
+    let load : SFits w32 (e .before .before .before .before .args .load) =
+    e .before .before .before .before .fits .load in
+    takes-load _ _ _ load (reached (e .before .before)) (more e)
+    (simp (toZ-ofZ, load) at (c .before .before .after .ensures)) refl
 
 pub step-spec : {M : Type 1} → statement M
 step-spec =

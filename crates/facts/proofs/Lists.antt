@@ -1,0 +1,50 @@
+-- Facts about lists that the library lacks: one element taken off, mapped or written, and one list stored in another.
+use Prim.Native.Nat.{ℕ, zero, suc, _+_, _≤_, _<_, min}
+use native.Mathlib.Nat.{add-zero, eq-or-lt-of-le}
+use native.Mathlib.Numerals.{add-one}
+use native.Mathlib.Omega.{arith}
+use mathlib.Core.Bool.{Bool, true, false}
+use mathlib.Core.List.{List, [], _∷_, _++_, map}
+use mathlib.Core.Logic.{⊎-elim}
+use mathlib.Core.Path.{_≡_, refl, sym, ap, _∙_, subst}
+use borrow.Author.Tests.{leb-true, leb-false}
+use lib.Dec.{leb}
+use lib.ListN.{length, drop, getD, set}
+use lib.Seq.{drop-cons, getD-set-same, getD-set-other, set-out, sets}
+
+pub uncons : {A : Type 0} (l : List A) (i : ℕ) (d : A) → i < length l → drop i l ≡ getD l i d ∷ drop (i + 1) l
+uncons l i d bound = rw add-one (drop-cons l i d bound)
+
+pub map-set : {A B : Type 0} (f : A → B) (l : List A) (i : ℕ) (y : A) → map f (set l i y) ≡ set (map f l) i (f y)
+map-set f [] i y = refl
+map-set f (x ∷ xs) zero y = refl
+map-set f (x ∷ xs) (suc i) y = ap (λ zs. f x ∷ zs) (map-set f xs i y)
+
+-- what holds of the places before i, and of the value written to place i, holds of the places before i + 1
+pub written-before : {A : Type 0} (P : ℕ → A → Type 0) (l : List A) (i : ℕ) (v d : A) → i < length l →
+    ((j : ℕ) → j < i → P j (getD l j d)) → P i v → (j : ℕ) → j < i + 1 → P j (getD (set l i v) j d)
+written-before P l i v d e before here j b =
+    let most : j ≤ i = omega arith in
+    ⊎-elim
+    (λ s. subst (λ j. P j (getD (set l i v) j d)) (sym s) (subst (P i) (sym (getD-set-same l i v d e)) here))
+    (λ b. subst (P j) (sym (getD-set-other l i j v d (omega (arith, b)))) (before j b))
+    (eq-or-lt-of-le most)
+
+-- nothing is stored past the end
+pub sets-past-end : (t l : List ℕ) (i : ℕ) → length l ≤ i → sets l i t ≡ l
+sets-past-end [] l i bound = refl
+sets-past-end (a ∷ t) l i bound = rw (set-out l i a bound) (sets-past-end t l (suc i) (omega arith))
+
+pub sets-clipped : (t l : List ℕ) (i : ℕ) → sets l (min i (length l)) t ≡ sets l i t
+sets-clipped t l i = by (leb i (length l)) refl
+  where
+    by : (b : Bool) → leb i (length l) ≡ b → sets l (min i (length l)) t ≡ sets l i t
+    by true e = ap (λ place. sets l place t) (omega (arith, leb-true i (length l) e))
+    by false e =
+        let past : length l < i = leb-false i (length l) e in
+        sets-past-end t l (min i (length l)) (omega arith) ∙ sym (sets-past-end t l i (omega arith))
+
+pub sets-append : (s t l : List ℕ) (i : ℕ) → sets (sets l i s) (i + length s) t ≡ sets l i (s ++ t)
+sets-append [] t l i = rw add-zero
+sets-append (a ∷ s) t l i =
+    ap (λ place. sets (sets (set l i a) (suc i) s) place t) (omega arith) ∙ sets-append s t (set l i a) (suc i)

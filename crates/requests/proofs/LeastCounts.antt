@@ -1,0 +1,148 @@
+-- The two least counts of slots given by their classes, and when a plan exists, as they follow from `best`.
+use Prim.Native.Nat.{ℕ, zero, suc, _+_, _≤_, _<_}
+use native.Mathlib.Nat.{le-antisymm, le-refl, eq-or-lt-of-le, lt-of-not-le}
+use native.Mathlib.Omega.{arith}
+use mathlib.Core.Bool.{Bool, true, false, cond}
+use mathlib.Core.List.{List}
+use mathlib.Core.Logic.{_⊎_, inl, inr, ⊎-elim}
+use mathlib.Core.Path.{_≡_, refl, sym, subst}
+use borrow.Author.Tests.{leb-true, leb-false}
+use lib.Dec.{leb}
+use Rattle.rule.specs.Ranges.{Class, allows}
+use Rattle.rule.specs.Rule.{legalBy, nonzero, windows, covered, LeastOver}
+use Rattle.rule.specs.declared.Shape.{Shape}
+use Rattle.requests.proofs.BestIsLeast.{best-le, best-le-covered, best-met}
+use Rattle.requests.specs.Best.{Fits, best, fewest}
+use Rattle.requests.specs.Solution.{sentinel, LegalMarks, CountsAreLeast}
+use Rattle.settings.specs.declared.Settings.{Settings}
+
+module _ (T : ℕ) (shape : Shape) (cs : List Class) where
+  -- v is the first of the window counts from w on for which `best` is at most c
+  record First (c w v : ℕ) : Type 0 where
+    enough : best T shape cs v ≤ c
+    first : (u : ℕ) → w ≤ u → best T shape cs u ≤ c → v ≤ u
+
+  fewest-first : (c w d : ℕ) → best T shape cs (w + d) ≤ c → First c w (fewest T shape cs c w d)
+  unfolding fewest
+  fewest-first c w zero e = record { enough = subst (λ v. best T shape cs v ≤ c) (omega arith) e; first = λ u p q. p }
+  fewest-first c w (suc d) e = by (leb (best T shape cs w) c) refl (fewest-first c (suc w) d)
+    where
+      by : (b : Bool) → leb (best T shape cs w) c ≡ b →
+          (best T shape cs (suc w + d) ≤ c → First c (suc w) (fewest T shape cs c (suc w) d)) →
+          First c w (cond b w (fewest T shape cs c (suc w) d))
+      by true q f = record { enough = leb-true _ _ q; first = λ u p q. p }
+      by false q f =
+          let s = f (subst (λ v. best T shape cs v ≤ c) (omega arith) e) in
+          let above-max : c < best T shape cs w = leb-false _ _ q in
+          record {
+            enough = s .enough;
+            first = λ u p r.
+                ⊎-elim (λ i. absurd (omega (arith, above-max, subst (λ v. best T shape cs v ≤ c) (sym i) r)))
+                (λ l. s .first u l r)
+                (eq-or-lt-of-le p);
+          }
+
+  -- v is what `fewest` finds if `best` is above c for the counts before v, and at most c for v unless v is the last
+  pub fewest-is : (c d w v : ℕ) → w ≤ v → v ≤ w + d → ((u : ℕ) → w ≤ u → u < v → c < best T shape cs u) →
+      (v < w + d → best T shape cs v ≤ c) → v ≡ fewest T shape cs c w d
+  unfolding fewest
+  fewest-is c zero w v p q f g = omega arith
+  fewest-is c (suc d) w v p q f g = by (leb (best T shape cs w) c) refl (eq-or-lt-of-le p) (fewest-is c d (suc w) v)
+    where
+      by : (b : Bool) → leb (best T shape cs w) c ≡ b → (w ≡ v) ⊎ (w < v) →
+          (suc w ≤ v → v ≤ suc w + d → ((u : ℕ) → suc w ≤ u → u < v → c < best T shape cs u) →
+          (v < suc w + d → best T shape cs v ≤ c) → v ≡ fewest T shape cs c (suc w) d) →
+          v ≡ cond b w (fewest T shape cs c (suc w) d)
+      by true e (inl same) later = sym same
+      by true e (inr l) later =
+          let within-max : best T shape cs w ≤ c = leb-true _ _ e in
+          absurd (omega (arith, within-max, f w (le-refl w) l))
+      by false e (inl same) later =
+          let above-max : c < best T shape cs w = leb-false _ _ e in
+          absurd (omega (arith, above-max, subst (λ u. best T shape cs u ≤ c) (sym same) (g (omega arith))))
+      by false e (inr l) later = later l (omega arith) (λ u a b. f u (omega arith) b) (λ a. g (omega arith))
+
+  module _ (w c : ℕ) where
+    pub exists→enough : {ms : List ℕ} → Fits shape cs w c ms → best T shape cs w ≤ c
+    exists→enough f = omega (arith, best-le-covered T shape f, f .short)
+
+    module _ (below-T : c < T) (enough : best T shape cs w ≤ c) where
+      pub enough→exists : (ms : List ℕ) × Fits shape cs w c ms
+      enough→exists =
+          let (ms, f) = best-met T shape cs w (omega arith) in
+          (ms, record { in-rule = f .in-rule; few = f .few; short = omega (arith, f .short) })
+
+      pub least-covered : LeastOver (Fits shape cs w c) covered (best T shape cs w)
+      least-covered =
+          let (ms, f) = best-met T shape cs w (omega arith) in
+          let low = best-le-covered T shape f in
+          record {
+            met = (
+              ms,
+              record { in-rule = f .in-rule; few = f .few; short = omega (arith, f .short) },
+              le-antisymm (f .short) low,
+            );
+            least = λ ms g. best-le-covered T shape g;
+          }
+
+      pub least-windows : LeastOver (Fits shape cs w c) windows (fewest T shape cs c 0 w)
+      least-windows =
+          let v = fewest T shape cs c 0 w in
+          let f : First c 0 v = fewest-first c 0 w (subst (λ v. best T shape cs v ≤ c) (omega arith) enough) in
+          let within : v ≤ w = f .first w (omega arith) enough in
+          let (ms, g) = best-met T shape cs v (omega (arith, f .enough)) in
+          record {
+            met = (
+              ms,
+              record {
+                in-rule = g .in-rule;
+                few = omega (arith, within, g .few);
+                short = omega (arith, g .short, f .enough);
+              },
+              le-antisymm (g .few) (by-count f ms (g .in-rule) (omega (arith, g .short, f .enough))),
+            );
+            least = λ ms g. by-count f ms (g .in-rule) (g .short);
+          }
+        where
+          by-count : {v : ℕ} → First c 0 v → (ms : List ℕ) →
+              legalBy allows (nonzero shape) cs ms ≡ true → covered ms ≤ c →
+              v ≤ windows ms
+          by-count f ms e s =
+              let g : Fits shape cs (windows ms) c ms = record { in-rule = e; few = le-refl _; short = s } in
+              f .first (windows ms) (omega arith) (omega (arith, best-le-covered T shape g, s))
+
+-- what the two least counts are, for all settings and classes
+module _ (s : Settings) (cs : List Class) where
+  abbrev w : ℕ
+  w = s .windows .most
+
+  abbrev c : ℕ
+  c = s .covered .most
+
+  covers : (ms : List ℕ) → LegalMarks s cs ms → windows ms ≤ w → best sentinel (s .shape) cs w ≤ covered ms
+  covers ms e few = best-le-covered sentinel (s .shape) (record { in-rule = e; few = few; short = le-refl _ })
+
+  pub counts-are-least : CountsAreLeast s cs
+  counts-are-least =
+      record {
+        covers = covers;
+        covered = λ below.
+            let (ms, f) = best-met sentinel (s .shape) cs w below in
+            record {
+              met = (ms, (f .in-rule, f .few), le-antisymm (f .short) (covers ms (f .in-rule) (f .few)));
+              least = λ ms (e, few). covers ms e few;
+            };
+        windows =
+            λ below ms f. least-windows sentinel (s .shape) cs w c below (exists→enough sentinel (s .shape) cs w c f);
+        none = λ below no.
+            sym
+            (fewest-is sentinel (s .shape) cs c w 0 w (omega arith) (omega arith)
+            (λ u _ less. lt-of-not-le λ enough.
+            let (ms, f) = enough→exists sentinel (s .shape) cs u c below enough in
+            no ms (record { in-rule = f .in-rule; few = omega (arith, f .few, less); short = f .short }))
+            (λ less. absurd (omega arith)));
+        at-sentinel = λ above.
+            sym
+            (fewest-is sentinel (s .shape) cs c w 0 0 (omega arith) (omega arith) (λ u _ less. absurd (omega arith))
+            (λ _. omega (arith, best-le sentinel (s .shape) cs 0, above)));
+      }
