@@ -63,7 +63,7 @@ bool same_answer(const struct icecoppice_answer *a, const struct icecoppice_answ
            a->covered_least == b->covered_least && a->covered_most == b->covered_most;
 }
 
-static bool same_buffers(const struct request *a, const struct request *b)
+bool same_buffers(const struct request *a, const struct request *b)
 {
     return memcmp(a->lowest, b->lowest, sizeof a->lowest) == 0 &&
            memcmp(a->highest, b->highest, sizeof a->highest) == 0 &&
@@ -210,7 +210,7 @@ void print_kind(const char *kind, unsigned long tally)
     }
 }
 
-static void print_refusals(const char *whose, const unsigned long *tally, unsigned first, unsigned last)
+void print_refusals(const char *whose, const unsigned long *tally, unsigned first, unsigned last)
 {
     for (unsigned code = first; code <= last; code++) {
         if (code > ICECOPPICE_COVERED_COUNTS && code < ICECOPPICE_CROSSED)

@@ -20,6 +20,9 @@ struct request blank_request(void);
 
 bool same_answer(const struct icecoppice_answer *a, const struct icecoppice_answer *b);
 
+/* Whether all entries are the same, in the slices and beside them. */
+bool same_buffers(const struct request *a, const struct request *b);
+
 /*
  * Ask both, and hold every field of the answer and every entry of the buffers to the search. Where the search would
  * have to try too many plans, the filter has to answer yes or no, to keep both maximums, to cut no more than a part of
@@ -33,6 +36,9 @@ _Noreturn void fail(const char *what, const struct request *r);
 
 /* Prints how often a kind of answer came; fails if it is rare. */
 void print_kind(const char *kind, unsigned long tally);
+
+/* The same for each refusal from the first to the last, by a tally with a place for each code. */
+void print_refusals(const char *whose, const unsigned long *tally, unsigned first, unsigned last);
 
 /* The same for each kind that was compared. */
 void print_tally(void);

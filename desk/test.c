@@ -1,8 +1,9 @@
 /*
  * Holds the library to the search on the worked cases and on random requests and plans, whole and damaged; to what
- * follows from the definitions on requests too large to search; and the watch to what watch.h says. The seed is fixed,
- * so every run asks the same.
+ * follows from the definitions on requests too large to search; the watch to what watch.h says; and the reader and the
+ * look-up to what cards.h says. The seed is fixed, so every run asks the same.
  */
+#include "cards.h"
 #include "cases.h"
 #include "compare.h"
 #include "random.h"
@@ -361,9 +362,11 @@ int main(void)
     check_watch_starts();
     check_watch_counts();
     check_watch_states();
+    check_cards();
     print_tally();
     printf("%-32s %7d\n", "filter, large: each slot settled", SETTLED_REQUESTS);
     print_watch_tally();
+    print_card_tally();
     printf("all agree\n");
     return 0;
 }

@@ -1,13 +1,13 @@
 /*
- * The boost-window planner for C11: a filter that cuts load ranges and draws a plan, a judge of finished plans, and a
- * watch, which counts windows slot by slot.
+ * The boost-window planner for C11: a filter that cuts load ranges and draws a plan, a judge of finished plans, a reader
+ * of form 1 files, the camera's cards, and a watch, which counts windows slot by slot.
  *
  * Link with target/staticlib/libc_api.a (`rt staticlib c_api`, x86-64 Linux). The functions are proved for all values
  * of their arguments. Only the test in desk/ checks these declarations against their source, crates/c_api/src.
  *
  * What a caller owes: each pointer is aligned and points to as many entries as its length says (a length of 0 asks
- * nothing of the pointer), and no slice lent to the filter overlaps another. The watch takes numbers only, and a caller
- * owes it nothing.
+ * nothing of the pointer), and no slice lent to the filter or the reader overlaps another. The watch takes numbers only,
+ * and a caller owes it nothing.
  */
 #ifndef ICECOPPICE_H
 #define ICECOPPICE_H
@@ -23,6 +23,9 @@ extern "C" {
 /* The most slots of a request. */
 #define ICECOPPICE_SLOTS 64
 
+/* The most bytes of a form 1 file. */
+#define ICECOPPICE_FILE_BYTES 4096
+
 /* The most slots that a watch takes. */
 #define ICECOPPICE_WATCH_SLOTS 1000000
 
@@ -32,9 +35,17 @@ extern "C" {
 #define ICECOPPICE_LATER     2 /* a later slot of a window, with its load over the threshold */
 #define ICECOPPICE_BRIDGE    3 /* a later slot of a window, with its load at most the threshold */
 
-/* Codes. Numbers from 21 on are refusals; the first that applies is given. */
-#define ICECOPPICE_YES             0  /* the filter: planned; the judge: yes; the watch: started, or the load taken */
+/* Codes. Numbers from 11 on are refusals; the first that applies is given. */
+#define ICECOPPICE_YES             0  /* planned; yes; the file is taken; the slot found; started, or the load taken */
 #define ICECOPPICE_NO              1  /* the filter: no plan; the judge: no */
+#define ICECOPPICE_FILE_SIZE       11 /* the file has fewer than 16 or more than 4,096 bytes */
+#define ICECOPPICE_FILE_END        12 /* its last two bytes are not 54 43 (hexadecimal) */
+#define ICECOPPICE_FILE_FORM       13 /* its form byte is not 1 */
+#define ICECOPPICE_FILE_SLOTS      14 /* it has 0 slots or more than 64 */
+#define ICECOPPICE_FILE_DISTANCE   15 /* its distance back is not 8 times the number of slots n */
+#define ICECOPPICE_FILE_RECORDS    16 /* it has fewer than 16 + 8 times n bytes */
+#define ICECOPPICE_LENT_LENGTH     17 /* the reader: a lent load slice is shorter than n */
+#define ICECOPPICE_SLOT_NUMBER     19 /* the look-up: the slot number is not below n */
 #define ICECOPPICE_FIRST_LENGTH    21 /* the first slice has 0 entries or more than 64 */
 #define ICECOPPICE_OTHER_LENGTH    22 /* another slice has a different length */
 #define ICECOPPICE_WINDOW_LENGTH   23 /* len is 0 or above the number of slots n; the watch: len is 0 or above 64 */
@@ -63,6 +74,22 @@ struct icecoppice_verdict {
     uint16_t code;    /* yes, no, or a refusal */
     uint16_t windows; /* yes: how many windows the plan has */
     uint16_t covered; /* yes: how many slots it covers */
+};
+
+/* What the reader answers. All fields but the code are 0 on a refusal. */
+struct icecoppice_reading {
+    uint16_t code; /* 0, or a refusal from 11 to 17 */
+    size_t n;      /* the number of slots */
+    int32_t k;     /* from here on the settings, as the filter takes them; the reader does not check them */
+    uint16_t len, h;
+    uint16_t windows_least, windows_most;
+    uint16_t covered_least, covered_most;
+};
+
+/* What a look-up answers. Both loads are 0 on a refusal. */
+struct icecoppice_found {
+    uint16_t code;           /* 0, or a refusal from 11 to 16, or 19 */
+    int32_t lowest, highest; /* the load range of the slot */
 };
 
 /*
@@ -120,6 +147,17 @@ struct icecoppice_verdict icecoppice_judge(int32_t k, uint16_t len, uint16_t h,
                                            uint16_t covered_least, uint16_t covered_most,
                                            const int32_t *loads, size_t loads_length,
                                            const uint8_t *marks, size_t marks_length);
+
+/*
+ * Reads a form 1 file: the settings, and each slot's load range into the first n places of lowest and highest, whose
+ * later places hold what they held before. On a refusal both slices do. n is at most ICECOPPICE_SLOTS.
+ */
+struct icecoppice_reading icecoppice_read(const uint8_t *file, size_t file_length,
+                                          int32_t *lowest, size_t lowest_length,
+                                          int32_t *highest, size_t highest_length);
+
+/* Gives the load range of one slot of a form 1 file; slots are numbered from 0. */
+struct icecoppice_found icecoppice_look_up(const uint8_t *file, size_t file_length, size_t slot);
 
 /* Starts a watch. */
 struct icecoppice_started icecoppice_watch_start(int32_t k, uint16_t len, uint16_t h);

@@ -1,2 +1,3 @@
+pub mod CodeMeans
 pub mod Means
 pub mod WatchMeans

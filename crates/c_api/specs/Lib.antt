@@ -1,2 +1,3 @@
+pub mod FileNumbers
 pub mod Numbers
 pub mod WatchNumbers

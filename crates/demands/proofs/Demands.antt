@@ -10,6 +10,7 @@ use lib.IntN.{ℤ}
 use lib.ListN.{length}
 use Rattle.card.proofs.LookUpAgrees.{look-up-agrees}
 use Rattle.card.proofs.ReaderAnswers.{reader-refuses, look-up-refuses, refused-unaltered}
+use Rattle.c_api.proofs.CodeMeans.{code-means}
 use Rattle.c_api.proofs.Means.{means, verdict-means}
 use Rattle.c_api.proofs.WatchMeans.{start-means, step-means}
 use Rattle.chooser.proofs.Chooses.{chosen→chooses}
@@ -27,6 +28,7 @@ use Rattle.settings.specs.Refusals.{refusal}
 use Rattle.rule.specs.Rule.{carries, shaped}
 use Rattle.rule.specs.declared.Shape.{Shape}
 use Rattle.settings.specs.declared.Settings.{Settings}
+use Rattle.c_api.specs.FileNumbers.{headerNumbers, foundNumbers}
 use Rattle.published.proofs.Corners.{recount}
 use Rattle.published.proofs.Examples.{examples}
 use Rattle.published.proofs.Theorems.{theorems}
@@ -61,6 +63,8 @@ use Rattle.listing.proofs.write_answer as WriteAnswer
 use Rattle.listing.proofs.write_refusal as WriteRefusal
 use Rattle.c_api.proofs.icecoppice_filter as CFilter
 use Rattle.c_api.proofs.icecoppice_judge as CJudge
+use Rattle.c_api.proofs.icecoppice_read as CRead
+use Rattle.c_api.proofs.icecoppice_look_up as CLookUp
 use Rattle.c_api.proofs.icecoppice_watch_start as CStart
 use Rattle.c_api.proofs.icecoppice_watch_step as CStep
 use Rattle.rule.proofs.over as Over
@@ -95,6 +99,8 @@ demand1 =
       reader-unaltered = refused-unaltered;
       filter-for-c = λ r numbers los his ms a. means a;
       judge-for-c = verdict-means;
+      reader-for-c = code-means (λ a. headerNumbers a .code) (λ header. refl) (λ f. refl);
+      look-up-for-c = code-means (λ a. foundNumbers a .code) (λ range. refl) (λ f. refl);
       start-for-c = start-means;
       step-for-c = λ w load numbers s. step-means s;
       numbers = number-slot-injective;
@@ -214,6 +220,8 @@ contracts =
       write-refusal = record { meets = WriteRefusal.Met.met; total = λ M 𝓤 H A mem run κs a. (tt, λ g. refl) };
       filter-for-c = record { meets = CFilter.Met.met; total = λ M 𝓤 H A mem run κs a. (tt, λ g. refl) };
       judge-for-c = record { meets = CJudge.Met.met; total = λ M 𝓤 H A mem run κs a. (tt, λ g. refl) };
+      read-for-c = record { meets = CRead.Met.met; total = λ M 𝓤 H A mem run κs a. (tt, λ g. refl) };
+      look-up-for-c = record { meets = CLookUp.Met.met; total = λ M 𝓤 H A mem run κs a. (tt, λ g. refl) };
       start-for-c = record { meets = CStart.Met.met; total = λ M 𝓤 H A mem run κs a. (tt, λ g. refl) };
       step-for-c = record { meets = CStep.Met.met; total = λ M 𝓤 H A mem run κs a. (tt, λ g. refl) };
       over = record { meets = Over.Met.met; total = λ M 𝓤 H A mem run κs a. (tt, λ g. refl) };

@@ -18,8 +18,9 @@ use lib.ListN.{length}
 use mir.Syntax.{w32}
 use mir.Val.{SFits}
 use Rattle.rule.specs.Ranges.{ChosenIn, Class}
+use Rattle.rule.specs.declared.Range.{Range}
 use Rattle.rule.specs.declared.Shape.{Shape}
-use Rattle.refusals.specs.Answer.{refuses, gives}
+use Rattle.refusals.specs.Answer.{Answer, refuses, gives}
 use Rattle.refusals.specs.Numbers.{number, slot}
 use Rattle.refusals.specs.Table.{row}
 use Rattle.refusals.specs.declared.Refusal.{Refusal}
@@ -46,10 +47,11 @@ use Rattle.watch.specs.declared.Watch.{Watch}
 use Rattle.watch.specs.declared.step.Stepped.{Stepped}
 use Rattle.form1.specs.Form1.{refusal as File·refusal}
 use Rattle.form1.specs.Layout.{ReadBack, OnlyEncoded}
-use Rattle.card.specs.Reading.{lentTooShort, reading}
+use Rattle.card.specs.Reading.{Header, lentTooShort, reading}
 use Rattle.card.specs.LookUp.{noSlot, looking, LookUpAgrees}
 use Rattle.listing.specs.Cases.{Cases as Listing·Cases}
 use Rattle.listing.specs.Text.{Decimal}
+use Rattle.c_api.specs.FileNumbers.{headerNumbers, foundNumbers, CodeMeans}
 use Rattle.c_api.specs.Numbers.{KeepsInNumbers, Means, VerdictMeans}
 use Rattle.c_api.specs.WatchNumbers.{StepsInNumbers, StartMeans, StepMeans}
 use Rattle.c_api.specs.declared.AnswerNumbers.{AnswerNumbers}
@@ -70,6 +72,8 @@ use Rattle.listing.proofs.write_answer as WriteAnswer
 use Rattle.listing.proofs.write_refusal as WriteRefusal
 use Rattle.c_api.proofs.icecoppice_filter as CFilter
 use Rattle.c_api.proofs.icecoppice_judge as CJudge
+use Rattle.c_api.proofs.icecoppice_read as CRead
+use Rattle.c_api.proofs.icecoppice_look_up as CLookUp
 use Rattle.c_api.proofs.icecoppice_watch_start as CStart
 use Rattle.c_api.proofs.icecoppice_watch_step as CStep
 use Rattle.rule.proofs.over as Over
@@ -126,6 +130,8 @@ pub record Demand1 : Type 0 where
       KeepsInNumbers r numbers los his ms →
       Means r numbers los his ms
   pub judge-for-c : (s : Settings) (loads : List ℤ) (marks : List ℕ) → VerdictMeans s loads marks
+  pub reader-for-c : (a : Answer Header) → CodeMeans a (headerNumbers a .code)
+  pub look-up-for-c : (a : Answer Range) → CodeMeans a (foundNumbers a .code)
   pub start-for-c : StartMeans
   pub step-for-c : (w : Watch) (load : ℤ) (numbers : StepNumbers) → StepsInNumbers w load numbers →
       StepMeans w load numbers
@@ -275,6 +281,8 @@ pub record Contracts : Type 2 where
   -- crates/c_api/src
   pub filter-for-c : Operation CFilter.Statement.statement CFilter.signature (λ M 𝓤. CFilter.spec 𝓤)
   pub judge-for-c : Operation CJudge.Statement.statement CJudge.signature (λ M 𝓤. CJudge.spec 𝓤)
+  pub read-for-c : Operation CRead.Statement.statement CRead.signature (λ M 𝓤. CRead.spec 𝓤)
+  pub look-up-for-c : Operation CLookUp.Statement.statement CLookUp.signature (λ M 𝓤. CLookUp.spec 𝓤)
   pub start-for-c : Operation CStart.Statement.statement CStart.signature (λ M 𝓤. CStart.spec 𝓤)
   pub step-for-c : Operation CStep.Statement.statement CStep.signature (λ M 𝓤. CStep.spec 𝓤)
   -- what these share: the test of a load, checks, a slot's class and least counts, a file's trailer and records, and
