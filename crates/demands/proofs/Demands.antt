@@ -67,6 +67,7 @@ use Rattle.c_api.proofs.icecoppice_read as CRead
 use Rattle.c_api.proofs.icecoppice_look_up as CLookUp
 use Rattle.c_api.proofs.icecoppice_watch_start as CStart
 use Rattle.c_api.proofs.icecoppice_watch_step as CStep
+use Rattle.buffer.proofs.put_byte as PutByte
 use Rattle.rule.proofs.over as Over
 use Rattle.settings.proofs.check as Check
 use Rattle.settings.proofs.check_lengths as CheckLengths
@@ -224,6 +225,7 @@ contracts =
       look-up-for-c = record { meets = CLookUp.Met.met; total = λ M 𝓤 H A mem run κs a. (tt, λ g. refl) };
       start-for-c = record { meets = CStart.Met.met; total = λ M 𝓤 H A mem run κs a. (tt, λ g. refl) };
       step-for-c = record { meets = CStep.Met.met; total = λ M 𝓤 H A mem run κs a. (tt, λ g. refl) };
+      put-byte = record { meets = PutByte.Met.met; total = λ M 𝓤 H A mem run κs a. (tt, λ g. refl) };
       over = record { meets = Over.Met.met; total = λ M 𝓤 H A mem run κs a. (tt, λ g. refl) };
       check = record { meets = Check.Met.met; total = λ M 𝓤 H A mem run κs a. (tt, λ g. refl) };
       check-lengths = record { meets = CheckLengths.Met.met; total = λ M 𝓤 H A mem run κs a. (tt, λ g. refl) };

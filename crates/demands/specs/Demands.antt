@@ -76,6 +76,7 @@ use Rattle.c_api.proofs.icecoppice_read as CRead
 use Rattle.c_api.proofs.icecoppice_look_up as CLookUp
 use Rattle.c_api.proofs.icecoppice_watch_start as CStart
 use Rattle.c_api.proofs.icecoppice_watch_step as CStep
+use Rattle.buffer.proofs.put_byte as PutByte
 use Rattle.rule.proofs.over as Over
 use Rattle.settings.proofs.check as Check
 use Rattle.settings.proofs.check_lengths as CheckLengths
@@ -285,8 +286,9 @@ pub record Contracts : Type 2 where
   pub look-up-for-c : Operation CLookUp.Statement.statement CLookUp.signature (λ M 𝓤. CLookUp.spec 𝓤)
   pub start-for-c : Operation CStart.Statement.statement CStart.signature (λ M 𝓤. CStart.spec 𝓤)
   pub step-for-c : Operation CStep.Statement.statement CStep.signature (λ M 𝓤. CStep.spec 𝓤)
-  -- what these share: the test of a load, checks, a slot's class and least counts, a file's trailer and records, and
-  -- the number and slot of a refusal
+  -- what these share: a byte put into a buffer, the test of a load, checks, a slot's class and least counts, a file's
+  -- trailer and records, and the number and slot of a refusal
+  pub put-byte : Operation PutByte.Statement.statement PutByte.signature (λ M 𝓤. PutByte.spec 𝓤)
   pub over : Operation Over.Statement.statement Over.signature (λ M 𝓤. Over.spec 𝓤)
   pub check : Operation Check.Statement.statement Check.signature (λ M 𝓤. Check.spec 𝓤)
   pub check-lengths : Operation CheckLengths.Statement.statement CheckLengths.signature (λ M 𝓤. CheckLengths.spec 𝓤)

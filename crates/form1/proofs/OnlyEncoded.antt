@@ -2,21 +2,19 @@
 use Prim.Native.Nat.{ℕ, zero, suc, _+_, _-_, _*_, _/_, _%_, _^_, _≤_, _<_}
 use native.Mathlib.Omega.{arith}
 use mathlib.Core.Bool.{Bool, true, false}
-use mathlib.Core.List.{List, [], _∷_, _++_, append-assoc}
+use mathlib.Core.List.{List, [], _∷_, _++_, flatten, flatMap, append-nil, append-assoc}
 use mathlib.Core.Option.{none}
 use mathlib.Core.Path.{_≡_, refl, sym}
 use borrow.Author.Tests.{lt-ltb}
 use lib.Dec.{ltb}
 use lib.ListN.{length, take, drop, length-drop, take-append-drop, drop-of-length-le}
 use lib.Seq.{drop-drop, take-add}
-use Rattle.facts.proofs.Lists.{uncons}
 use Rattle.rule.specs.declared.Range.{Range}
 use Rattle.form1.proofs.Tabulate.{length-tabulate}
-use Rattle.form1.proofs.NumberAt.{numberAt-1}
 use Rattle.form1.proofs.WholeFile.{WholeFile, pass→whole}
 use Rattle.form1.specs.Form1.{littleEndian, signed, numberAt, signedAt, trailer, distance, slots, settings, form}
 use Rattle.form1.specs.Form1.{rangeOf, tabulate, fileRefusal}
-use Rattle.form1.specs.Layout.{bytes, bits, recordBytes, trailerBytes, encode, Bytes, OnlyEncoded}
+use Rattle.form1.specs.Layout.{bytes, bits, recordBytes, countsBytes, trailerBytes, encode, Bytes, OnlyEncoded}
 
 bytes-drop : (i : ℕ) (l : List ℕ) → Bytes l → Bytes (drop i l)
 bytes-drop zero l f = f
@@ -48,10 +46,10 @@ bits-signed n bound = by (ltb n 2147483648) refl
     by false e = rw (e, lt-ltb n 4294967296 (omega arith)) (omega arith)
 
 records-snoc : (rs : List Range) (r : Range) →
-    recordBytes (rs ++ (r ∷ [])) ≡ recordBytes rs ++ (bytes 4 (bits (r .lowest)) ++ bytes 4 (bits (r .highest)))
-unfolding recordBytes bytes
-records-snoc [] r = refl
-records-snoc (q ∷ rs) r = rw (records-snoc rs r) refl
+    flatMap recordBytes (rs ++ (r ∷ [])) ≡ flatMap recordBytes rs ++ recordBytes r
+unfolding flatMap
+records-snoc [] r = append-nil (recordBytes r)
+records-snoc (q ∷ rs) r = rw (records-snoc rs r) (sym (append-assoc (recordBytes q) (flatMap recordBytes rs) _))
 
 module _ (file : List ℕ) (fits : Bytes file) where
   signed-bytes : (place : ℕ) → place + 4 ≤ length file → bytes 4 (bits (signedAt place file)) ≡ take 4 (drop place file)
@@ -66,8 +64,8 @@ module _ (file : List ℕ) (fits : Bytes file) where
   ranges start i = record { lowest = signedAt (start + 8 * i) file; highest = signedAt (start + 8 * i + 4) file }
 
   records-from : (start n : ℕ) → start + 8 * n ≤ length file →
-      recordBytes (tabulate n (ranges start)) ≡ take (8 * n) (drop start file)
-  unfolding tabulate recordBytes
+      flatMap recordBytes (tabulate n (ranges start)) ≡ take (8 * n) (drop start file)
+  unfolding tabulate flatMap recordBytes
   records-from start zero bound = refl
   records-from start (suc n) bound =
       let place = start + 8 * n in
@@ -96,71 +94,43 @@ module _ (file : List ℕ) (fits : Bytes file) where
       )
       (sym (take-append-drop size (drop place file)))
 
-  byte-then : (j : ℕ) → trailer file + j < length file →
-      drop (trailer file + j) file ≡ numberAt 1 (trailer file + j) file ∷ drop (trailer file + (j + 1)) file
-  byte-then j bound =
-      let next : trailer file + (j + 1) ≡ trailer file + j + 1 = omega arith in
-      rw (next, ← numberAt-1 file (trailer file + j) bound) (uncons file (trailer file + j) 0 bound)
+  number-fits : (size place : ℕ) → numberAt size place file < 256 ^ size
+  unfolding numberAt
+  number-fits size place = little-fits size (drop place file) (bytes-drop place file fits)
 
   module _ (pass : fileRefusal file ≡ none) where
     abbrev file-is : WholeFile file
     file-is = pass→whole file pass
 
-    -- the single bytes of the trailer
-    counts-encoded : drop (trailer file + 2) file
-        ≡ slots file ∷ settings file .shape .len ∷ settings file .shape .h
-        ∷ settings file .windows .least ∷ settings file .windows .most
-        ∷ settings file .covered .least ∷ settings file .covered .most ∷ drop (trailer file + 9) file
-    unfolding slots settings
-    counts-encoded =
-        let here : (j : ℕ) → j < 16 → trailer file + j < length file = λ j bound. omega (arith, file-is .long) in
-        rw (
-          byte-then 2 (here 2 (omega arith)),
-          byte-then 3 (here 3 (omega arith)),
-          byte-then 4 (here 4 (omega arith)),
-          byte-then 5 (here 5 (omega arith)),
-          byte-then 6 (here 6 (omega arith)),
-          byte-then 7 (here 7 (omega arith)),
-          byte-then 8 (here 8 (omega arith)),
-        )
-        refl
+    -- a field of the trailer, and what follows it
+    field-then : (size j : ℕ) → j + size ≤ 16 → drop (trailer file + j) file
+        ≡ bytes size (numberAt size (trailer file + j) file) ++ drop (trailer file + (j + size)) file
+    field-then size j bound =
+        let next : trailer file + (j + size) ≡ trailer file + j + size = omega arith in
+        rw next (number-then size (trailer file + j) (omega (arith, file-is .long)))
 
-    end-encoded : drop (trailer file + 13) file ≡ 1 ∷ 84 ∷ 67 ∷ []
-    unfolding form
-    end-encoded =
-        let here : (j : ℕ) → j < 16 → trailer file + j < length file = λ j bound. omega (arith, file-is .long) in
+    trailer-encoded : drop (trailer file) file ≡ trailerBytes (settings file) (slots file)
+    unfolding trailerBytes flatten countsBytes bytes distance slots settings signedAt form
+    trailer-encoded =
         rw (
-          byte-then 13 (here 13 (omega arith)),
-          byte-then 14 (here 14 (omega arith)),
-          byte-then 15 (here 15 (omega arith)),
+          number-then 2 (trailer file) (omega (arith, file-is .long)),
+          file-is .back,
+          field-then 1 2 (omega arith),
+          field-then 1 3 (omega arith),
+          field-then 1 4 (omega arith),
+          field-then 1 5 (omega arith),
+          field-then 1 6 (omega arith),
+          field-then 1 7 (omega arith),
+          field-then 1 8 (omega arith),
+          field-then 4 9 (omega arith),
+          bits-signed (numberAt 4 (trailer file + 9) file) (number-fits 4 (trailer file + 9)),
+          field-then 1 13 (omega arith),
           file-is .first-form,
+          field-then 1 14 (omega arith),
+          field-then 1 15 (omega arith),
           file-is .ends .0,
           file-is .ends .1,
           drop-of-length-le file {i = trailer file + 16} (omega arith),
-        )
-        refl
-
-    threshold-encoded : drop (trailer file + 9) file ≡ bytes 4 (bits (settings file .k))
-        ++ drop (trailer file + 13) file
-    unfolding settings signedAt numberAt
-    threshold-encoded =
-        let place = trailer file + 9 in
-        let fit = little-fits 4 (drop place file) (bytes-drop place file fits) in
-        let next : trailer file + 13 ≡ place + 4 = omega arith in
-        rw (bits-signed (numberAt 4 place file) fit, next) (number-then 4 place (omega (arith, file-is .long)))
-
-    trailer-encoded : drop (trailer file) file ≡ trailerBytes (settings file) (slots file)
-    unfolding trailerBytes distance
-    trailer-encoded =
-        let start = number-then 2 (trailer file) (omega (arith, file-is .long)) in
-        rw (
-          start,
-          file-is .back,
-          counts-encoded,
-          threshold-encoded,
-          end-encoded,
-          append-assoc (bytes 2 (8 * slots file) ++ _) (bytes 4 (bits (settings file .k))) (1 ∷ 84 ∷ 67 ∷ []),
-          append-assoc (bytes 2 (8 * slots file)) _ (bytes 4 (bits (settings file .k)) ++ (1 ∷ 84 ∷ 67 ∷ [])),
         )
         refl
 

@@ -1,7 +1,7 @@
 -- An encoded file is read as what it was encoded from (`ReadBack`).
 use Prim.Native.Nat.{ℕ, zero, suc, _+_, _-_, _*_, _/_, _^_, _≤_, _<_}
 use native.Mathlib.Omega.{arith}
-use mathlib.Core.List.{List, [], _∷_, _++_, append-assoc}
+use mathlib.Core.List.{List, [], _∷_, _++_, flatten, flatMap, append-assoc}
 use mathlib.Core.Option.{none}
 use mathlib.Core.Path.{_≡_, refl, sym, ap, _∙_}
 use borrow.Author.Tests.{lt-ltb, le-ltb, eq-eqb, ne-eqb}
@@ -16,7 +16,8 @@ use Rattle.settings.specs.declared.Settings.{Settings}
 use Rattle.form1.specs.Form1.{littleEndian, signed, numberAt, signedAt, trailer, distance, slots, settings, form}
 use Rattle.form1.specs.Form1.{rangeOf, wrongSize, wrongEnd, wrongForm, wrongSlots, wrongDistance, recordsMissing}
 use Rattle.form1.specs.Form1.{fileRefusal}
-use Rattle.form1.specs.Layout.{bytes, bits, recordBytes, trailerBytes, encode, FitRanges, ReadBack}
+use Rattle.form1.specs.Layout.{bytes, bits, recordBytes, countsBytes, trailerBytes, encode, FitRanges}
+use Rattle.form1.specs.Layout.{FitSettings, ReadBack}
 
 -- a number that is encoded in bytes and read again is the same number
 little-bytes : (size n : ℕ) → n < 256 ^ size → littleEndian (bytes size n) ≡ n
@@ -46,24 +47,24 @@ numberAt-append : (size j : ℕ) (front rest : List ℕ) →
 unfolding numberAt
 numberAt-append size j front rest = rw (drop-append-add front rest j) refl
 
-length-records : (rs : List Range) → length (recordBytes rs) ≡ 8 * length rs
-unfolding recordBytes bytes
+length-records : (rs : List Range) → length (flatMap recordBytes rs) ≡ 8 * length rs
+unfolding flatMap recordBytes bytes
 length-records [] = refl
 length-records (r ∷ rs) = omega (arith, length-records rs)
 
 -- the bytes from record i on
 from-record : (i : ℕ) (rs : List Range) (d : Range) (rest : List ℕ) → i < length rs →
     (more : List ℕ)
-    × (drop (8 * i) (recordBytes rs ++ rest)
+    × (drop (8 * i) (flatMap recordBytes rs ++ rest)
     ≡ bytes 4 (bits (getD rs i d .lowest)) ++ (bytes 4 (bits (getD rs i d .highest)) ++ more))
-unfolding recordBytes bytes
-from-record zero (r ∷ rs) d rest bound = (recordBytes rs ++ rest, refl)
+unfolding flatMap recordBytes bytes
+from-record zero (r ∷ rs) d rest bound = (flatMap recordBytes rs ++ rest, refl)
 from-record (suc i) (r ∷ rs) d rest bound =
     let (more, e) = from-record i rs d rest (omega arith) in
     let ahead : 8 * suc i ≡ 8 + 8 * i = omega arith in (
       more,
-      ap (λ count. drop count (recordBytes (r ∷ rs) ++ rest)) ahead
-          ∙ sym (drop-drop (8 * i) 8 (recordBytes (r ∷ rs) ++ rest)) ∙ e,
+      ap (λ count. drop count (flatMap recordBytes (r ∷ rs) ++ rest)) ahead
+          ∙ sym (drop-drop (8 * i) 8 (flatMap recordBytes (r ∷ rs) ++ rest)) ∙ e,
     )
 
 loads-at : (rs : List Range) (i : ℕ) (d : Range) → i < length rs → FitRanges rs →
@@ -75,12 +76,12 @@ module _ (note : List ℕ) (rs : List Range) (s : Settings) where
   abbrev file : List ℕ
   file = encode note rs s
 
-  front-length : length (note ++ recordBytes rs) ≡ length note + 8 * length rs
-  front-length = rw (length-append note (recordBytes rs), length-records rs) refl
+  front-length : length (note ++ flatMap recordBytes rs) ≡ length note + 8 * length rs
+  front-length = rw (length-append note (flatMap recordBytes rs), length-records rs) refl
 
-  file-length : length file ≡ length note + 8 * length rs + 16
-  unfolding encode trailerBytes bytes
-  file-length = rw (length-append (note ++ recordBytes rs) (trailerBytes s (length rs)), front-length) refl
+  pub encode-length : length file ≡ length note + 8 * length rs + 16
+  unfolding encode trailerBytes flatten countsBytes bytes
+  encode-length = rw (length-append (note ++ flatMap recordBytes rs) (trailerBytes s (length rs)), front-length) refl
 
   -- a field of the trailer
   in-trailer : (size j place : ℕ) → place ≡ length note + 8 * length rs + j →
@@ -88,49 +89,49 @@ module _ (note : List ℕ) (rs : List Range) (s : Settings) where
   unfolding encode
   in-trailer size j place e =
       ap (λ p. numberAt size p file) (e ∙ ap (λ l. l + j) (sym front-length))
-      ∙ numberAt-append size j (note ++ recordBytes rs) (trailerBytes s (length rs))
+      ∙ numberAt-append size j (note ++ flatMap recordBytes rs) (trailerBytes s (length rs))
 
   field : (j b : ℕ) → littleEndian (take 1 (drop j (trailerBytes s (length rs)))) ≡ b →
       numberAt 1 (trailer file + j) file ≡ b
-  field j b e = in-trailer 1 j _ (rw file-length (omega arith)) ∙ e
+  field j b e = in-trailer 1 j _ (rw encode-length (omega arith)) ∙ e
 
   module _ (few : length rs ≤ 64) where
     n-read : slots file ≡ length rs
-    unfolding slots trailerBytes bytes littleEndian
+    unfolding slots trailerBytes flatten countsBytes bytes littleEndian
     n-read = field 2 (length rs) (omega arith)
 
     back : distance file ≡ 8 * length rs
-    unfolding distance trailerBytes bytes
+    unfolding distance trailerBytes flatten countsBytes bytes
     back =
-        in-trailer 2 0 _ (rw file-length (omega arith))
+        in-trailer 2 0 _ (rw encode-length (omega arith))
         ∙ little-bytes 2 (8 * length rs) (omega arith)
 
-    settings-read : SFits w32 (s .k) → settings file ≡ s
-    unfolding settings signedAt trailerBytes bytes littleEndian
+    settings-read : FitSettings s → settings file ≡ s
+    unfolding settings signedAt trailerBytes flatten countsBytes bytes littleEndian
     settings-read f =
         rw (
-          in-trailer 4 9 (trailer file + 9) (rw file-length (omega arith)),
-          signed-back (s .k) f,
-          field 3 (s .shape .len) (omega arith),
-          field 4 (s .shape .h) (omega arith),
-          field 5 (s .windows .least) (omega arith),
-          field 6 (s .windows .most) (omega arith),
-          field 7 (s .covered .least) (omega arith),
-          field 8 (s .covered .most) (omega arith),
+          in-trailer 4 9 (trailer file + 9) (rw encode-length (omega arith)),
+          signed-back (s .k) (f .k),
+          field 3 (s .shape .len) (omega (arith, f .len)),
+          field 4 (s .shape .h) (omega (arith, f .h)),
+          field 5 (s .windows .least) (omega (arith, f .windows)),
+          field 6 (s .windows .most) (omega (arith, f .windows)),
+          field 7 (s .covered .least) (omega (arith, f .covered)),
+          field 8 (s .covered .most) (omega (arith, f .covered)),
         )
         refl
 
     -- a load of a record: m is 0 for the lowest, 4 for the highest
     in-record : (i m place : ℕ) → place ≡ length note + (8 * i + m) →
         signedAt place file ≡ signed
-        (littleEndian (take 4 (drop m (drop (8 * i) (recordBytes rs ++ trailerBytes s (length rs))))))
+        (littleEndian (take 4 (drop m (drop (8 * i) (flatMap recordBytes rs ++ trailerBytes s (length rs))))))
     unfolding signedAt encode
     in-record i m place e =
         rw (
           e,
-          append-assoc note (recordBytes rs) (trailerBytes s (length rs)),
-          numberAt-append 4 (8 * i + m) note (recordBytes rs ++ trailerBytes s (length rs)),
-          ← drop-drop m (8 * i) (recordBytes rs ++ trailerBytes s (length rs)),
+          append-assoc note (flatMap recordBytes rs) (trailerBytes s (length rs)),
+          numberAt-append 4 (8 * i + m) note (flatMap recordBytes rs ++ trailerBytes s (length rs)),
+          ← drop-drop m (8 * i) (flatMap recordBytes rs ++ trailerBytes s (length rs)),
         )
         refl
 
@@ -139,7 +140,7 @@ module _ (note : List ℕ) (rs : List Range) (s : Settings) where
     range-read fits i d bound =
         let (more, e) = from-record i rs d (trailerBytes s (length rs)) bound in
         let (low, high) = loads-at rs i d bound fits in
-        let from : trailer file - distance file ≡ length note = rw (back, file-length) (omega arith) in
+        let from : trailer file - distance file ≡ length note = rw (back, encode-length) (omega arith) in
         rw (
           from,
           in-record i 0 (length note + 8 * i) (omega arith),
@@ -152,10 +153,10 @@ module _ (note : List ℕ) (rs : List Range) (s : Settings) where
 
     passes : 1 ≤ length rs → length file ≤ 4096 → fileRefusal file ≡ none
     unfolding fileRefusal first row wrongSize wrongEnd wrongForm form wrongSlots wrongDistance recordsMissing
-        trailerBytes bytes littleEndian
+        trailerBytes flatten countsBytes bytes littleEndian
     passes some short-file =
         rw (
-          le-ltb (length file) 16 (rw file-length (omega arith)),
+          le-ltb (length file) 16 (rw encode-length (omega arith)),
           le-ltb 4096 (length file) short-file,
           field 13 1 refl,
           field 14 84 refl,
@@ -165,7 +166,7 @@ module _ (note : List ℕ) (rs : List Range) (s : Settings) where
           ne-eqb (length rs) 0 (omega arith),
           le-ltb 64 (length rs) few,
           eq-eqb (8 * length rs) (8 * length rs) refl,
-          le-ltb (length file) (16 + 8 * length rs) (rw file-length (omega arith)),
+          le-ltb (length file) (16 + 8 * length rs) (rw encode-length (omega arith)),
         )
         refl
 

@@ -17,12 +17,12 @@ unfolding tabulate
 length-tabulate zero f = refl
 length-tabulate (suc n) f = rw (length-append (tabulate n f) (f n ∷ []), length-tabulate n f) (omega arith)
 
-tabulate-at : (n i : ℕ) (f : ℕ → ℤ) → i < n → getD (tabulate n f) i (pos 0) ≡ f i
+pub tabulate-at : {A : Type 0} (n i : ℕ) (f : ℕ → A) (d : A) → i < n → getD (tabulate n f) i d ≡ f i
 unfolding tabulate
-tabulate-at (suc n) i f bound =
+tabulate-at (suc n) i f d bound =
     ⊎-elim
-    (λ e. rw e (getD-at (tabulate n f) (f n) [] (pos 0) n (length-tabulate n f)))
-    (λ l. List·getD-append (tabulate n f) (f n ∷ []) (pos 0) i (rw (length-tabulate n f) l) ∙ tabulate-at n i f l)
+    (λ e. rw e (getD-at (tabulate n f) (f n) [] d n (length-tabulate n f)))
+    (λ l. List·getD-append (tabulate n f) (f n ∷ []) d i (rw (length-tabulate n f) l) ∙ tabulate-at n i f d l)
     (eq-or-lt-of-le (le-of-suc-le-suc bound))
 
 -- a slice whose first n places are filled
@@ -30,7 +30,7 @@ module _ (f : ℕ → ℤ) (places : List ℤ) where
   pub filled-at : (n i : ℕ) → i < n → getD (tabulate n f ++ drop n places) i (pos 0) ≡ f i
   filled-at n i bound =
       List·getD-append (tabulate n f) (drop n places) (pos 0) i (rw (length-tabulate n f) bound)
-      ∙ tabulate-at n i f bound
+      ∙ tabulate-at n i f (pos 0) bound
 
   pub none-filled : places ≡ tabulate 0 f ++ drop 0 places
   unfolding tabulate

@@ -52,13 +52,17 @@ unfoldable pub form : List ℕ → ℕ
 form file = numberAt 1 (trailer file + 13) file
 
 -- Before the trailer stand n records of 8 bytes, each the lowest and the highest load of a slot. The distance counts
--- back from the trailer's start to the first record. What comes before the records is a free note.
+-- back from the trailer's start to the first record.
 unfoldable pub rangeOf : (slot : ℕ) → List ℕ → Range
 rangeOf slot file =
     record {
       lowest = signedAt (trailer file - distance file + 8 * slot) file;
       highest = signedAt (trailer file - distance file + 8 * slot + 4) file;
     }
+
+-- what comes before the records is a free note
+abbrev pub note : List ℕ → List ℕ
+note file = take (trailer file - distance file) file
 
 -- what f gives for each number below n, in order
 unfoldable pub tabulate : {A : Type 0} (n : ℕ) → (ℕ → A) → List A

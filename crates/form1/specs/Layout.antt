@@ -2,16 +2,17 @@
 -- file from its end; here a file is encoded from its front. The two agree in both directions (proofs/ReadBack.antt,
 -- proofs/OnlyEncoded.antt).
 use Prim.Native.Nat.{ℕ, zero, suc, _+_, _-_, _*_, _/_, _%_, _≤_, _<_}
-use mathlib.Core.List.{List, [], _∷_, _++_}
+use mathlib.Core.List.{List, [], _∷_, _++_, flatten, flatMap}
 use mathlib.Core.Option.{none}
 use mathlib.Core.Path.{_≡_}
 use lib.IntN.{ℤ, pos, negsuc}
-use lib.ListN.{length, take, getD}
+use lib.ListN.{length, getD}
 use mir.Syntax.{w32}
 use mir.Val.{SFits}
 use Rattle.rule.specs.declared.Range.{Range}
+use Rattle.settings.specs.declared.CountRange.{CountRange}
 use Rattle.settings.specs.declared.Settings.{Settings}
-use Rattle.form1.specs.Form1.{trailer, distance, settings, slots, rangeOf, tabulate, fileRefusal}
+use Rattle.form1.specs.Form1.{settings, slots, rangeOf, note, tabulate, fileRefusal}
 
 -- a number in `size` bytes, the least significant first
 unfoldable pub bytes : (size n : ℕ) → List ℕ
@@ -23,25 +24,42 @@ unfoldable pub bits : ℤ → ℕ
 bits (pos n) = n
 bits (negsuc n) = 4294967295 - n
 
-unfoldable pub recordBytes : List Range → List ℕ
-recordBytes [] = []
-recordBytes (r ∷ rs) = bytes 4 (bits (r .lowest)) ++ (bytes 4 (bits (r .highest)) ++ recordBytes rs)
+unfoldable pub recordBytes : Range → List ℕ
+recordBytes r = bytes 4 (bits (r .lowest)) ++ bytes 4 (bits (r .highest))
+
+unfoldable pub countsBytes : CountRange → List ℕ
+countsBytes range = bytes 1 (range .least) ++ bytes 1 (range .most)
 
 unfoldable pub trailerBytes : Settings → (n : ℕ) → List ℕ
 trailerBytes s n =
-    bytes 2 (8 * n)
-    ++ (n ∷ s .shape .len ∷ s .shape .h ∷ s .windows .least ∷ s .windows .most ∷ s .covered .least
-    ∷ s .covered .most ∷ [])
-    ++ bytes 4 (bits (s .k))
-    ++ (1 ∷ 84 ∷ 67 ∷ [])
+    flatten
+    (bytes 2 (8 * n)
+    ∷ bytes 1 n
+    ∷ bytes 1 (s .shape .len)
+    ∷ bytes 1 (s .shape .h)
+    ∷ countsBytes (s .windows)
+    ∷ countsBytes (s .covered)
+    ∷ bytes 4 (bits (s .k))
+    ∷ bytes 1 1
+    ∷ bytes 1 84
+    ∷ bytes 1 67
+    ∷ [])
 
 unfoldable pub encode : (note : List ℕ) → List Range → Settings → List ℕ
-encode note rs s = note ++ recordBytes rs ++ trailerBytes s (length rs)
+encode note rs s = note ++ flatMap recordBytes rs ++ trailerBytes s (length rs)
 
 -- every load fits into 32 bits
 abbrev pub FitRanges : List Range → Type 0
 FitRanges [] = Unit
 FitRanges (r ∷ rs) = SFits w32 (r .lowest) × SFits w32 (r .highest) × FitRanges rs
+
+-- every setting fits into its bytes
+pub record FitSettings (s : Settings) : Type 0 where
+  pub k : SFits w32 (s .k)
+  pub len : s .shape .len < 256
+  pub h : s .shape .h < 256
+  pub windows : (s .windows .least < 256) × (s .windows .most < 256)
+  pub covered : (s .covered .least < 256) × (s .covered .most < 256)
 
 -- every number is a byte
 abbrev pub Bytes : List ℕ → Type 0
@@ -59,12 +77,11 @@ pub record ReadAs (file : List ℕ) (rs : List Range) (s : Settings) : Type 0 wh
 abbrev pub ReadBack : Type 0
 ReadBack =
     (note : List ℕ) (rs : List Range) (s : Settings) →
-    1 ≤ length rs → length rs ≤ 64 → length (encode note rs s) ≤ 4096 → FitRanges rs → SFits w32 (s .k) →
+    1 ≤ length rs → length rs ≤ 64 → length (encode note rs s) ≤ 4096 → FitRanges rs → FitSettings s →
     ReadAs (encode note rs s) rs s
 
 -- Every file that passes these checks is the encoding of some note and of what is read from it.
 abbrev pub OnlyEncoded : Type 0
 OnlyEncoded =
     (file : List ℕ) → Bytes file → fileRefusal file ≡ none →
-    file ≡ encode (take (trailer file - distance file) file)
-    (tabulate (slots file) (λ i. rangeOf i file)) (settings file)
+    file ≡ encode (note file) (tabulate (slots file) (λ i. rangeOf i file)) (settings file)

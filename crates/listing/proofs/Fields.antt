@@ -2,8 +2,9 @@
 use Prim.Native.Nat.{ℕ}
 use mathlib.Core.List.{List, [], _∷_, _++_}
 use lib.Seq.{append-snoc}
-use Rattle.listing.proofs.Written.{written-append}
-use Rattle.listing.specs.Text.{Written, line}
+use Rattle.buffer.proofs.Written.{written-append}
+use Rattle.buffer.specs.Written.{Written}
+use Rattle.listing.specs.Text.{line}
 
 module _ (field : List ℕ) {p q : ℕ} {before between : List ℕ} where
   pub line-last : Written (field ++ (10 ∷ [])) p before between q → Written (line (field ∷ [])) p before between q

@@ -4,4 +4,3 @@ mod Fields
 mod Lengths
 mod Signs
 mod SlotLinesLoop
-mod Written

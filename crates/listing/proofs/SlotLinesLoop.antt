@@ -9,8 +9,9 @@ use lib.ListN.{length, getD, drop, length-append, length-drop}
 use Rattle.facts.proofs.Lists.{uncons}
 use Rattle.facts.proofs.Naturals.{min-sub}
 use Rattle.settings.specs.Refusals.{limit}
-use Rattle.listing.proofs.Written.{LeftToWrite, left-start, left-step, written-nil, written-length}
-use Rattle.listing.specs.Text.{slotLine, slotLines, Written, maxLineLength}
+use Rattle.buffer.proofs.Written.{LeftToWrite, left-start, left-step, written-nil, written-length}
+use Rattle.buffer.specs.Written.{Written}
+use Rattle.listing.specs.Text.{slotLine, slotLines, maxLineLength}
 
 abbrev shortest : (lowest highest : List ℤ) (marks : List ℕ) → ℕ
 shortest los his ms = min (length los) (min (length his) (length ms))

@@ -1,6 +1,6 @@
 -- The text of an answer, in bytes of ASCII (document 01, "What the plan printer writes").
 use Prim.Native.Char.{code}
-use Prim.Native.Nat.{ℕ, zero, suc, _+_, _-_, _*_, _/_, _%_, _≤_, min}
+use Prim.Native.Nat.{ℕ, zero, suc, _+_, _-_, _*_, _/_, _%_, _≤_}
 use Prim.Native.String.{String}
 use Prim.Native.String as string
 use mathlib.Core.Bool.{cond}
@@ -9,7 +9,6 @@ use mathlib.Core.Path.{_≡_}
 use lib.Dec.{eqb, ltb}
 use lib.IntN.{ℤ, pos, negsuc}
 use lib.ListN.{length, getD}
-use lib.Seq.{sets}
 use Rattle.refusals.specs.Answer.{Answer, refuses, gives}
 use Rattle.refusals.specs.Numbers.{number, slot}
 use Rattle.refusals.specs.declared.Refusal.{Refusal}
@@ -91,12 +90,6 @@ answerText (gives (planned n)) los his ms =
 -- the whole text
 unfoldable pub text : Outcome → List ℕ
 text o = answerText (o .answer) (o .lowest) (o .highest) (o .marks)
-
--- A text written into a lent buffer from a place on: as much of it as fits; the rest of the buffer is as it was. What
--- comes back is the place after what was written.
-pub record Written (text : List ℕ) (place : ℕ) (before after : List ℕ) (end : ℕ) : Type 0 where
-  pub stored : after ≡ sets before place text
-  pub ends : end ≡ min (place + length text) (length before)
 
 -- A bound on the length of a slot's line: a number of 3 digits, two loads of 11 bytes, a mark of 3 digits, and a byte
 -- after each.

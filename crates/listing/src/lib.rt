@@ -2,7 +2,8 @@
 ghost use Prim.Native.Nat.{_≤_};
 ghost use lib.ListN.{length};
 ghost use Rattle.settings.specs.Refusals.{limit};
-ghost use Rattle.listing.specs.Text.{text, Written, maxLength};
+ghost use Rattle.listing.specs.Text.{text, maxLength};
+ghost use Rattle.buffer.specs.Written.{Written};
 ghost use Rattle.filter.specs.AnswerMeaning.{outcomeOf};
 use filter::Answer;
 

@@ -6,7 +6,8 @@ use lib.IntN.{ℤ, pos}
 use lib.ListN.{length, take, replicate}
 use Rattle.refusals.specs.Answer.{Answer, refuses, gives}
 use Rattle.card.specs.Reading.{Header, reading}
-use Rattle.listing.specs.Text.{text, Written}
+use Rattle.buffer.specs.Written.{Written}
+use Rattle.listing.specs.Text.{text}
 use Rattle.requests.specs.Promise.{Outcome, Keeps}
 use Rattle.requests.specs.Request.{requestOf}
 use Rattle.settings.specs.Refusals.{limit}

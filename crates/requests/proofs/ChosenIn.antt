@@ -5,7 +5,7 @@ use native.Mathlib.Omega.{arith}
 use mathlib.Core.List.{List, [], _∷_, map}
 use mathlib.Core.Path.{_≡_, refl, sym, ap, _∙_, subst}
 use lib.IntN.{ℤ}
-use lib.ListN.{length, set}
+use lib.ListN.{length, getD, set}
 use lib.Signed.{_≤ℤ_, ≤ℤ-refl}
 use Rattle.facts.proofs.Integers.{≤ℤ-trans, ≤ℤ-antisym}
 use Rattle.facts.proofs.Lists.{map-set}
@@ -17,6 +17,14 @@ pub paired-length : (los his : List ℤ) → length los ≡ length his → lengt
 paired-length [] his e = refl
 paired-length (lo ∷ los) [] e = absurd (omega arith)
 paired-length (lo ∷ los) (hi ∷ his) e = ap suc (paired-length los his (omega arith))
+
+-- what f gives for the range of slot i
+pub paired-at : {A : Type 0} (f : Range → A) (d : A) (los his : List ℤ) (i : ℕ) → i < length los → i < length his →
+    getD (map f (paired los his)) i d ≡ f (range (at los i) (at his i))
+paired-at f d [] his i p q = absurd (omega arith)
+paired-at f d (lo ∷ los) [] i p q = absurd (omega arith)
+paired-at f d (lo ∷ los) (hi ∷ his) zero p q = refl
+paired-at f d (lo ∷ los) (hi ∷ his) (suc i) p q = paired-at f d los his i (omega arith) (omega arith)
 
 pub paired-set : (los his : List ℤ) (i : ℕ) (lo hi : ℤ) →
     paired (set los i lo) (set his i hi) ≡ set (paired los his) i (range lo hi)

@@ -55,18 +55,22 @@ proper→uncrossed i (r ∷ rs) (l, p) =
     rw (false-of-not (ltZ (r .highest) (r .lowest)) (λ e. clashℤ (ltZ-yes (subst T (sym e) tt)) l))
     (proper→uncrossed (suc i) rs p)
 
-wellFormed→formed : (r : Request) → WellFormed r → Formed r
-unfolding filterRefusal requestRefusal
-wellFormed→formed r e =
+-- what is known where no check of a request refuses it
+pub passes→accepted : (s : Settings) (los his : List ℤ) {different : Bool} →
+    requestRefusal s los his different ≡ none →
+    Accepted (length los) s × (length his ≡ length los) × (different ≡ false) × Proper (paired los his)
+unfolding requestRefusal
+passes→accepted s los his e =
     let (checked, e) = first-none-check _ _ e in
     let (same-lengths, pass) = accepted-iff .0 checked in
-    let (width, marked) = or-false→both _ _ same-lengths in
-    record {
-      pass = pass;
-      width = differs-false _ _ .0 width;
-      marked = differs-false _ _ .0 marked;
-      proper = uncrossed→proper 0 _ (first-none-check _ _ e .0);
-    }
+    let (width, same) = or-false→both _ _ same-lengths in
+    (pass, differs-false _ _ .0 width, same, uncrossed→proper 0 _ (first-none-check _ _ e .0))
+
+wellFormed→formed : (r : Request) → WellFormed r → Formed r
+unfolding filterRefusal
+wellFormed→formed r e =
+    let (pass, width, marked, proper) = passes→accepted (r .settings) (r .lowest) (r .highest) e in
+    record { pass = pass; width = width; marked = differs-false _ _ .0 marked; proper = proper }
 
 formed→wellFormed : (r : Request) → Formed r → WellFormed r
 unfolding filterRefusal requestRefusal first

@@ -16,6 +16,7 @@ use Rattle.rule.specs.Ranges.{range, Class, under-only, over-only, either, clas
 use Rattle.rule.specs.declared.Range.{Range}
 use Rattle.rule.specs.Rule.{over}
 use Rattle.settings.specs.declared.Settings.{Settings}
+use Rattle.requests.proofs.ChosenIn.{paired-at}
 use Rattle.requests.proofs.Formed.{Formed, one-side, chosen-slots, possible→fits, fits→plan, left→possible}
 use Rattle.requests.proofs.Formed.{possible→left}
 use Rattle.requests.specs.Promise.{Loss, nothing, under-part, over-part, lowestAfter, highestAfter}
@@ -33,10 +34,7 @@ mapIndexed-at f (x ∷ xs) (suc i) bound = mapIndexed-at (λ i. f (suc i)) xs i 
 
 pub class-at : (k : ℤ) (los his : List ℤ) (i : ℕ) → i < length los → i < length his →
     getD (map (classOf k) (paired los his)) i under-only ≡ classOf k (range (at los i) (at his i))
-class-at k [] his i p q = absurd (omega arith)
-class-at k (lo ∷ los) [] i p q = absurd (omega arith)
-class-at k (lo ∷ los) (hi ∷ his) zero p q = refl
-class-at k (lo ∷ los) (hi ∷ his) (suc i) p q = class-at k los his i (omega arith) (omega arith)
+class-at k = paired-at (classOf k) under-only
 
 -- what the class of a range says of its ends
 abbrev pub Ends : ℤ → Range → Class → Type 0

@@ -1,5 +1,5 @@
 -- What holds of lengths and settings exactly when they meet no refusal.
-use Prim.Native.Nat.{ℕ, zero, suc, _+_, _≤_}
+use Prim.Native.Nat.{ℕ, zero, suc, _+_, _≤_, min}
 use native.Mathlib.Omega.{arith}
 use mathlib.Core.Bool.{Bool, false}
 use mathlib.Core.Logic.{_↔_}
@@ -33,12 +33,12 @@ pub wrongLength-false : (shape : Shape) (n : ℕ) → (wrongLength shape n ≡ f
 unfolding wrongLength
 wrongLength-false shape n = one-to-most (shape .len) n
 
--- a len of at least 2 leaves at least two slots besides h bridges
-pub bridges-le : (shape : Shape) → wrongBridges shape ≡ false → 2 ≤ shape .len → shape .h + 2 ≤ shape .len
+-- besides h bridges a window has two slots, or all that it has where these are fewer
+pub bridges-le : (shape : Shape) → wrongBridges shape ≡ false → shape .h + min 2 (shape .len) ≤ shape .len
 unfolding wrongBridges
-bridges-le shape e two = by (shape .h) e
+bridges-le shape e = by (shape .h) e
   where
-    by : (h : ℕ) → wrongBridges (record { len = shape .len; h = h }) ≡ false → h + 2 ≤ shape .len
+    by : (h : ℕ) → wrongBridges (record { len = shape .len; h = h }) ≡ false → h + min 2 (shape .len) ≤ shape .len
     by zero e = omega arith
     by (suc h) e = omega (arith, leb-false (shape .len) (suc h + 1) (rw (lt-ltb 0 (suc h) (omega arith)) at e))
 

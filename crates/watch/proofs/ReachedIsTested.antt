@@ -36,7 +36,7 @@ accepted-numbers shape e =
     let (length, e) = first-none-row _ _ _ e in
     let (bridges, e) = first-none-row _ _ _ e in
     let (some, few) = wrongLength-false shape limit .0 length in
-    (some, few, bridges-le shape bridges)
+    (some, few, λ two. omega (arith, bridges-le shape bridges))
 
 initial-tested : (k : ℤ) (shape : Shape) → startRefusal shape ≡ none → Tested (initial k shape)
 initial-tested k shape e = record { accepted = e; few = omega arith; opens = inl refl; phase = inl (omega arith) }

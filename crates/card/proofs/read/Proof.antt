@@ -4,17 +4,17 @@ use native.Mathlib.Omega.{arith}
 use mathlib.Core.Option.{none}
 use mathlib.Core.Path.{_≡_, refl, sym, ap, _∙_}
 use borrow.Author.Needs.{needs}
-use borrow.Author.Tests.{lt-ltb, le-ltb}
+use borrow.Author.Tests.{lt-ltb}
 use lib.Dec.{ltb}
 use lib.ListN.{length}
 use Rattle.facts.proofs.Tests.{or-true}
 use Rattle.refusals.specs.Answer.{gives}
 use Rattle.form1.proofs.Opening.{rows-refuse, rows-pass}
 use Rattle.form1.proofs.WholeFile.{pass→whole}
-use Rattle.form1.proofs.Rows.{refuses-early, refuses-last, gives-asked}
+use Rattle.form1.proofs.Rows.{refuses-early, refuses-last}
 use Rattle.form1.specs.Form1.{fileRefusal}
 use Rattle.form1.specs.Opening.{contents}
-use Rattle.card.proofs.ReaderAnswers.{nothing-altered, records-put}
+use Rattle.card.proofs.ReaderAnswers.{takes, nothing-altered, records-put}
 use Rattle.card.specs.Reading.{lentTooShort, readAnswer}
 use Rattle.card.proofs.read.Statement.{statement}
 use Rattle.card.proofs.read.Tie as tie
@@ -59,14 +59,12 @@ returns-3 c =
     (refuses-early _ _ _ (rows-refuse _ (point .before .before .«open» .ensures) (point .refusal .given .1)))
 
 returns-4 : tie.Need-returns-4
-unfolding readAnswer lentTooShort
 returns-4 c =
     let put = c .before .before .before in
     let lent = put .before .before .before in
     let (pass, is) = known (lent .before .before .before) in
     records-put _ _ _ _
-    (gives-asked _ _ _ pass
-    (rw (← ap (λ t. t .n) is, le-ltb _ _ (lent .before .if1 .left), le-ltb _ _ (lent .if2 .left)) refl)
+    (takes _ _ _ pass (rw (← ap (λ t. t .n) is) (lent .before .if1 .left)) (rw (← ap (λ t. t .n) is) (lent .if2 .left))
     ∙ ap (λ t. gives (record { settings = t .settings; n = t .n })) (sym is))
     (put .fill .ensures .0) (put .fill .ensures .1)
 

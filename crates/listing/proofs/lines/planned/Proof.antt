@@ -3,7 +3,7 @@
 use native.Mathlib.Omega.{arith}
 use borrow.Author.Needs.{needs}
 use Rattle.listing.proofs.Lengths.{planned-short}
-use Rattle.listing.proofs.Written.{written-append}
+use Rattle.buffer.proofs.Written.{written-append}
 use Rattle.listing.specs.Text.{answerText}
 use Rattle.listing.proofs.lines.planned.Statement.{statement}
 use Rattle.listing.proofs.lines.planned.Tie as tie

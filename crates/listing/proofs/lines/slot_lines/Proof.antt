@@ -10,7 +10,7 @@ use mir.Syntax.{w32}
 use mir.Val.{SFits}
 use Rattle.listing.proofs.Lengths.{slotLine-short}
 use Rattle.listing.proofs.SlotLinesLoop.{SlotsLeft, lines-start, lines-step, lines-end, all-short}
-use Rattle.listing.proofs.Written.{left-length}
+use Rattle.buffer.proofs.Written.{left-length}
 use Rattle.listing.proofs.lines.slot_lines.Statement.{statement}
 use Rattle.listing.proofs.lines.slot_lines.Tie as tie
 

@@ -6,11 +6,11 @@ use borrow.Author.Needs.{needs}
 use borrow.Fn.Kinds.{In}
 use borrow.Fn.PlainCycle.{Measures, is, falls, and}
 use Rattle.listing.proofs.Decimals.{one-digit, more-digits}
-use Rattle.listing.proofs.Written.{written-append}
+use Rattle.buffer.proofs.Written.{written-append}
 use Rattle.listing.proofs.put.decimal.Reads as decimal
 use Rattle.listing.proofs.put.decimal.Kinds as decimal-kinds
 use Rattle.listing.proofs.put.+decimal.Lts-decimal as decimal-lts
-use Rattle.listing.proofs.put.byte.Reads as byte-reads
+use Rattle.buffer.proofs.put_byte.Reads as put-byte-reads
 use Rattle.listing.proofs.put.+decimal.{statement}
 use Rattle.listing.proofs.put.+decimal.Tie.{close}
 
@@ -27,16 +27,16 @@ module _ (t : ℕ) where
   below = and 1 decimal-kinds.ps (falls 1 decimal-kinds.ps _<_ μ-decimal t) decimal.Pre
 
   abbrev calls : decimal-lts.Claims
-  calls = (byte-reads.Asked, byte-reads.Learnt, below, decimal.Post)
+  calls = (put-byte-reads.Asked, put-byte-reads.Learnt, below, decimal.Post)
 
-  cast-byte : decimal-lts.Need-cast-byte calls given decimal.Post
-  cast-byte c = search needs
+  cast-put-byte : decimal-lts.Need-cast-put-byte calls given decimal.Post
+  cast-put-byte c = search needs
 
-  add-byte : decimal-lts.Need-add-byte calls given decimal.Post
-  add-byte c = search needs
+  add-put-byte : decimal-lts.Need-add-put-byte calls given decimal.Post
+  add-put-byte c = search needs
 
-  byte-requires : decimal-lts.Need-byte-requires calls given decimal.Post
-  byte-requires c κs = search needs
+  put-byte-requires : decimal-lts.Need-put-byte-requires calls given decimal.Post
+  put-byte-requires c κs = search needs
 
   same-length : decimal-lts.Need-same-length calls given decimal.Post
   same-length c = search needs
@@ -44,19 +44,19 @@ module _ (t : ℕ) where
   returns : decimal-lts.Need-returns calls given decimal.Post
   returns c =
       let n = c .before .before .before .before .before .before .args .n in
-      rw (one-digit n (omega arith)) (c .before .before .byte .ensures)
+      rw (one-digit n (omega arith)) (c .before .before .put-byte .ensures)
 
   decimal-requires : decimal-lts.Need-decimal-requires calls given decimal.Post
   decimal-requires c κs = search needs
 
-  cast-byte-2 : decimal-lts.Need-cast-byte-2 calls given decimal.Post
-  cast-byte-2 c = search needs
+  cast-put-byte-2 : decimal-lts.Need-cast-put-byte-2 calls given decimal.Post
+  cast-put-byte-2 c = search needs
 
-  add-byte-2 : decimal-lts.Need-add-byte-2 calls given decimal.Post
-  add-byte-2 c = search needs
+  add-put-byte-2 : decimal-lts.Need-add-put-byte-2 calls given decimal.Post
+  add-put-byte-2 c = search needs
 
-  byte-requires-2 : decimal-lts.Need-byte-requires-2 calls given decimal.Post
-  byte-requires-2 c κs = search needs
+  put-byte-requires-2 : decimal-lts.Need-put-byte-requires-2 calls given decimal.Post
+  put-byte-requires-2 c κs = search needs
 
   same-length-2 : decimal-lts.Need-same-length-2 calls given decimal.Post
   same-length-2 c = search needs
@@ -65,7 +65,8 @@ module _ (t : ℕ) where
   returns-2 c =
       let tenth = c .before .before .before .before .before .before in
       let n = tenth .before .before .before .before .args .n in
-      rw (more-digits n (omega arith)) (written-append (tenth .decimal .ensures) (c .before .before .byte2 .ensures))
+      rw (more-digits n (omega arith))
+      (written-append (tenth .decimal .ensures) (c .before .before .put-byte2 .ensures))
 
 pub +decimal-spec : {M : Type 1} → statement M
 +decimal-spec =
@@ -74,14 +75,14 @@ pub +decimal-spec : {M : Type 1} → statement M
     (calls t)
     (given t)
     decimal.Post
-    (cast-byte t)
-    (add-byte t)
-    (byte-requires t)
+    (cast-put-byte t)
+    (add-put-byte t)
+    (put-byte-requires t)
     (same-length t)
     (returns t)
     (decimal-requires t)
-    (cast-byte-2 t)
-    (add-byte-2 t)
-    (byte-requires-2 t)
+    (cast-put-byte-2 t)
+    (add-put-byte-2 t)
+    (put-byte-requires-2 t)
     (same-length-2 t)
     (returns-2 t)

@@ -1,6 +1,6 @@
 -- `listing::put::number` meets its contract: the digits, then one byte (`Written`).
 use borrow.Author.Needs.{needs}
-use Rattle.listing.proofs.Written.{written-append}
+use Rattle.buffer.proofs.Written.{written-append}
 use Rattle.listing.proofs.put.number.Statement.{statement}
 use Rattle.listing.proofs.put.number.Tie as tie
 

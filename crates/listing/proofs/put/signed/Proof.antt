@@ -3,7 +3,7 @@ use native.Mathlib.Omega.{arith}
 use borrow.Author.Needs.{needs}
 use Rattle.facts.proofs.Signs.{Negative, NotNegative, negative, not-negative}
 use Rattle.listing.proofs.Signs.{with-minus, without-minus}
-use Rattle.listing.proofs.Written.{written-append}
+use Rattle.buffer.proofs.Written.{written-append}
 use Rattle.listing.proofs.put.signed.Statement.{statement}
 use Rattle.listing.proofs.put.signed.Tie as tie
 
@@ -24,7 +24,7 @@ returns : tie.Need-returns
 returns c =
     let byte = c .before .before .before .before .before .before in
     rw (with-minus (below (byte .before .before) .2))
-    (written-append (byte .byte .ensures) (c .before .before .number .ensures))
+    (written-append (byte .put-byte .ensures) (c .before .before .number .ensures))
 
 cast-number-2 : tie.Need-cast-number-2
 cast-number-2 c = let n = above c in (n .0, omega arith)

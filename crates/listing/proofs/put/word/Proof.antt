@@ -6,7 +6,7 @@ use mathlib.Core.List.{[], _∷_, _++_}
 use mathlib.Core.Path.{_∙_}
 use borrow.Author.Needs.{needs}
 use lib.ListN.{length, drop}
-use Rattle.listing.proofs.Written.{LeftToWrite, left-start, left-byte, left-end, left-length, written-length}
+use Rattle.buffer.proofs.Written.{LeftToWrite, left-start, left-byte, left-end, left-length, written-length}
 use Rattle.listing.proofs.put.word.Statement.{statement}
 use Rattle.listing.proofs.put.word.Tie as tie
 
@@ -20,11 +20,11 @@ abbrev μ-loop : tie.MeasureT-loop
 loop-holds : tie.Need-loop-holds Inv-loop μ-loop
 loop-holds c = left-start
 
-shared-slice-read-byte : tie.Need-shared-slice-read-byte Inv-loop μ-loop
-shared-slice-read-byte c = search needs
+shared-slice-read-put-byte : tie.Need-shared-slice-read-put-byte Inv-loop μ-loop
+shared-slice-read-put-byte c = search needs
 
-byte-requires : tie.Need-byte-requires Inv-loop μ-loop
-byte-requires c κs = search needs
+put-byte-requires : tie.Need-put-byte-requires Inv-loop μ-loop
+put-byte-requires c κs = search needs
 
 add-i : tie.Need-add-i Inv-loop μ-loop
 add-i c = search needs
@@ -35,20 +35,20 @@ loop-less c = search needs
 loop-again : tie.Need-loop-again Inv-loop μ-loop
 loop-again c =
     let loop = c .before .before .before .before .before .before .loop in
-    left-byte _ _ (loop .i) (loop .inv) (omega arith) (c .before .before .byte .ensures)
+    left-byte _ _ (loop .i) (loop .inv) (omega arith) (c .before .before .put-byte .ensures)
 
-byte-requires-2 : tie.Need-byte-requires-2 Inv-loop μ-loop
-byte-requires-2 c κs = search needs
+put-byte-requires-2 : tie.Need-put-byte-requires-2 Inv-loop μ-loop
+put-byte-requires-2 c κs = search needs
 
 same-length : tie.Need-same-length Inv-loop μ-loop
 same-length c =
     let loop = c .before .before .before .before .before .loop in
-    written-length (c .before .before .byte2 .ensures) ∙ left-length (loop .inv)
+    written-length (c .before .before .put-byte2 .ensures) ∙ left-length (loop .inv)
 
 returns : tie.Need-returns Inv-loop μ-loop
 returns c =
     let loop = c .before .before .before .before .before .loop in
-    left-end _ _ (loop .i) (loop .inv) (omega arith) .whole _ _ (c .before .before .byte2 .ensures)
+    left-end _ _ (loop .i) (loop .inv) (omega arith) .whole _ _ (c .before .before .put-byte2 .ensures)
 
 pub word-spec : {M : Type 1} → statement M
 word-spec =
@@ -57,11 +57,11 @@ word-spec =
     Inv-loop
     μ-loop
     loop-holds
-    shared-slice-read-byte
-    byte-requires
+    shared-slice-read-put-byte
+    put-byte-requires
     add-i
     loop-less
     loop-again
-    byte-requires-2
+    put-byte-requires-2
     same-length
     returns)

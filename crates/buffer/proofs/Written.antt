@@ -1,4 +1,4 @@
--- Texts written one after another are one text.
+-- Bytes written one after another are one list of bytes.
 use Prim.Native.Nat.{ℕ, _+_, _≤_, _<_, min}
 use native.Mathlib.Omega.{arith}
 use mathlib.Core.List.{List, [], _∷_, _++_}
@@ -6,7 +6,7 @@ use mathlib.Core.Path.{_≡_, refl, sym, ap, _∙_}
 use lib.ListN.{length, getD, drop, set, length-append, drop-of-length-le}
 use lib.Seq.{set-out, sets, length-sets}
 use Rattle.facts.proofs.Lists.{uncons, sets-clipped, sets-append}
-use Rattle.listing.specs.Text.{Written}
+use Rattle.buffer.specs.Written.{Written}
 
 -- a byte, where it fits and where it does not
 module _ (b : ℕ) (out : List ℕ) (place : ℕ) where
