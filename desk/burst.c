@@ -46,6 +46,7 @@ static const char *refusal(uint16_t code)
     case ICECOPPICE_FILE_DISTANCE: return "the distance back is not 8 times the number of slots";
     case ICECOPPICE_FILE_RECORDS: return "the card is too short for its number of slots";
     case ICECOPPICE_LENT_LENGTH: return "a lent slice is too short for the card's number of slots";
+    case ICECOPPICE_BUFFER_LENGTH: return "the lent buffer is too short for the card";
     case ICECOPPICE_SLOT_NUMBER: return "the card has no slot of this number";
     case ICECOPPICE_FILE_SLOTS:
     case ICECOPPICE_FIRST_LENGTH: return "there have to be 1 to 64 slots";

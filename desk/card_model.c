@@ -146,3 +146,17 @@ struct icecoppice_found model_look_up(const uint8_t *file, size_t file_length, s
         return (struct icecoppice_found){.code = ICECOPPICE_SLOT_NUMBER};
     return range_of(trailer, slot);
 }
+
+struct icecoppice_writing model_write(const struct settings *s, const int32_t *lowest, size_t lowest_length,
+                                      const int32_t *highest, size_t highest_length, uint8_t *buffer,
+                                      size_t buffer_length)
+{
+    /* There are no marks whose length could differ. */
+    struct icecoppice_answer refused = search_refusal(s, lowest, lowest_length, highest, highest_length, lowest_length);
+    if (refused.code != 0)
+        return (struct icecoppice_writing){.code = refused.code, .slot = refused.slot};
+    if (buffer_length < RECORD_BYTES * lowest_length + TRAILER_BYTES)
+        return (struct icecoppice_writing){.code = ICECOPPICE_BUFFER_LENGTH};
+    size_t length = model_file(buffer, (const uint8_t[]){0}, 0, s, lowest, highest, lowest_length);
+    return (struct icecoppice_writing){.code = ICECOPPICE_YES, .length = length};
+}

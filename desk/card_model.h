@@ -1,6 +1,7 @@
 /*
- * A second opinion on form 1, the file on the card: the bytes of a file, and what the reader and a look-up have to
- * answer for any bytes, by rows 11 to 17 and 19 of document 01's table. It shares no code with the library.
+ * A second opinion on form 1, the file on the card: the bytes of a file; what the reader and a look-up have to answer
+ * for any bytes, by rows 11 to 17 and 19 of document 01's table; and what the writer has to answer for any request, by
+ * the search's refusals and row 18. It shares no code with the library.
  */
 #ifndef CARD_MODEL_H
 #define CARD_MODEL_H
@@ -39,5 +40,10 @@ struct icecoppice_reading model_read(const uint8_t *file, size_t file_length, in
 
 /* What a look-up has to answer. */
 struct icecoppice_found model_look_up(const uint8_t *file, size_t file_length, size_t slot);
+
+/* What the writer has to answer; if the file is stored, it is put into the first bytes of the buffer. */
+struct icecoppice_writing model_write(const struct settings *s, const int32_t *lowest, size_t lowest_length,
+                                      const int32_t *highest, size_t highest_length, uint8_t *buffer,
+                                      size_t buffer_length);
 
 #endif

@@ -133,6 +133,19 @@ static void check_whole_card(struct card *c, const struct request *made)
     }
 }
 
+void check_read_back(const uint8_t *file, size_t file_length, const struct request *stored)
+{
+    size_t n = stored->lowest_length;
+    struct card c = {.start = MARGIN, .length = file_length};
+    struct request made = blank_request();
+    made.settings = stored->settings;
+    made.lowest_length = made.highest_length = n;
+    memcpy(made.lowest + MARGIN, stored->lowest + MARGIN, n * sizeof *made.lowest);
+    memcpy(made.highest + MARGIN, stored->highest + MARGIN, n * sizeof *made.highest);
+    memcpy(c.buffer + c.start, file, file_length);
+    check_whole_card(&c, &made);
+}
+
 /* The reader checks neither the settings nor the ranges, so they are any. */
 static struct request some_contents(size_t n)
 {

@@ -1,4 +1,7 @@
-/* Reads a card, changes the load ranges of slots as the command line says, plans the burst and draws it as text. */
+/*
+ * Reads a card, changes the load ranges of slots as the command line says, writes another card, and draws the plan of
+ * the burst as text.
+ */
 #include "arguments.h"
 #include "burst.h"
 
@@ -6,7 +9,7 @@
 #include <stdio.h>
 #include <stdlib.h>
 
-enum { FIRST_CHANGE = 2 };
+enum { FIRST_CHANGE = 3 };
 
 /* There is place for one byte more than a card may have, so that a longer file is refused and not cut. */
 struct card {
@@ -16,7 +19,7 @@ struct card {
 
 void usage(void)
 {
-    fprintf(stderr, "usage: edit CARD.card [SLOT RANGE]...\n"
+    fprintf(stderr, "usage: edit CARD.card NEW.card [SLOT RANGE]...\n"
                     "  RANGE is the slot's new load range such as -2..4, or one number\n");
     exit(2);
 }
@@ -71,13 +74,38 @@ static bool change_slot(const struct card *c, struct burst *b, size_t slot, stru
     return true;
 }
 
+static void save_card(const char *name, const uint8_t *bytes, size_t length)
+{
+    FILE *file = fopen(name, "wb");
+    if (file == NULL || fwrite(bytes, 1, length, file) != length || fclose(file) != 0) {
+        perror(name);
+        exit(2);
+    }
+    printf("%s: %zu bytes\n", name, length);
+}
+
+/* Writes what a burst asks for; prints the refusal, and makes no card, if it is refused. */
+static bool write_card(const char *name, const struct burst *b)
+{
+    uint8_t bytes[ICECOPPICE_WRITTEN_BYTES];
+    struct icecoppice_writing w = icecoppice_write(
+        b->k, b->len, b->h, b->windows.lowest, b->windows.highest, b->covered.lowest, b->covered.highest,
+        b->given_lowest, b->n, b->given_highest, b->n, bytes, sizeof bytes);
+    if (w.code != ICECOPPICE_YES) {
+        print_refusal(w.code, w.slot);
+        return false;
+    }
+    save_card(name, bytes, w.length);
+    return true;
+}
+
 /*
  * Exits with 0 if there is a plan, 1 if there is none or the card, a slot or the request is refused, 2 if the arguments
- * are no changes or the file cannot be read.
+ * are no changes or a file cannot be read or written.
  */
 int main(int count, char **arguments)
 {
-    if (count < FIRST_CHANGE || count % 2 != 0)
+    if (count < FIRST_CHANGE || count % 2 == 0)
         usage();
     struct card c = load_card(arguments[1]);
     struct burst b = new_burst(ICECOPPICE_SLOTS);
@@ -85,7 +113,7 @@ int main(int count, char **arguments)
     for (int i = FIRST_CHANGE; accepted && i < count; i += 2)
         accepted = change_slot(&c, &b, whole_number(arguments[i], 0, LONG_MAX),
                                range(arguments[i + 1], INT32_MIN, INT32_MAX));
-    int code = accepted ? plan_burst(&b) : 1;
+    int code = accepted && write_card(arguments[2], &b) ? plan_burst(&b) : 1;
     free_burst(&b);
     return code;
 }

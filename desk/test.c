@@ -1,7 +1,7 @@
 /*
  * Holds the library to the search on the worked cases and on random requests and plans, whole and damaged; to what
- * follows from the definitions on requests too large to search; the watch to what watch.h says; and the reader and the
- * look-up to what cards.h says. The seed is fixed, so every run asks the same.
+ * follows from the definitions on requests too large to search; the watch to what watch.h says; and the reader, the
+ * look-up and the writer to what cards.h and writing.h say. The seed is fixed, so every run asks the same.
  */
 #include "cards.h"
 #include "cases.h"
@@ -9,6 +9,7 @@
 #include "random.h"
 #include "requests.h"
 #include "watch.h"
+#include "writing.h"
 
 #include <stdio.h>
 #include <string.h>
@@ -295,10 +296,12 @@ int main(void)
     check_watch_counts();
     check_watch_states();
     check_cards();
+    check_writing();
     print_tally();
     printf("%-32s %7d\n", "filter, large: each slot settled", SETTLED_REQUESTS);
     print_watch_tally();
     print_card_tally();
+    print_writing_tally();
     printf("all agree\n");
     return 0;
 }

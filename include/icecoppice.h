@@ -1,13 +1,13 @@
 /*
- * The boost-window planner for C11: a filter that cuts load ranges and draws a plan, a judge of finished plans, a reader
- * of form 1 files, the camera's cards, and a watch, which counts windows slot by slot.
+ * The boost-window planner for C11: a filter that cuts load ranges and draws a plan, a judge of finished plans, a
+ * reader and a writer of form 1 files, the camera's cards, and a watch, which counts windows slot by slot.
  *
  * Link with target/staticlib/libc_api.a (`rt staticlib c_api`, x86-64 Linux). The functions are proved for all values
  * of their arguments. Only the test in desk/ checks these declarations against their source, crates/c_api/src.
  *
  * What a caller owes: each pointer is aligned and points to as many entries as its length says (a length of 0 asks
- * nothing of the pointer), and no slice lent to the filter or the reader overlaps another. The watch takes numbers only,
- * and a caller owes it nothing.
+ * nothing of the pointer), and no slice lent to the filter, the reader or the writer overlaps another. The watch takes
+ * numbers only, and a caller owes it nothing.
  */
 #ifndef ICECOPPICE_H
 #define ICECOPPICE_H
@@ -26,6 +26,10 @@ extern "C" {
 /* The most bytes of a form 1 file. */
 #define ICECOPPICE_FILE_BYTES 4096
 
+/* The length of the file that the writer makes of a request with n slots, and the most that it can be. */
+#define ICECOPPICE_FILE_LENGTH(n) (16 + 8 * (n))
+#define ICECOPPICE_WRITTEN_BYTES  ICECOPPICE_FILE_LENGTH(ICECOPPICE_SLOTS)
+
 /* The most slots that a watch takes. */
 #define ICECOPPICE_WATCH_SLOTS 1000000
 
@@ -36,7 +40,7 @@ extern "C" {
 #define ICECOPPICE_BRIDGE    3 /* a later slot of a window, with its load at most the threshold */
 
 /* Codes. Numbers from 11 on are refusals; the first that applies is given. */
-#define ICECOPPICE_YES             0  /* planned; yes; the file is taken; the slot found; started, or the load taken */
+#define ICECOPPICE_YES             0  /* planned; yes; file taken; slot found; file stored; started, or load taken */
 #define ICECOPPICE_NO              1  /* the filter: no plan; the judge: no */
 #define ICECOPPICE_FILE_SIZE       11 /* the file has fewer than 16 or more than 4,096 bytes */
 #define ICECOPPICE_FILE_END        12 /* its last two bytes are not 54 43 (hexadecimal) */
@@ -45,6 +49,7 @@ extern "C" {
 #define ICECOPPICE_FILE_DISTANCE   15 /* its distance back is not 8 times the number of slots n */
 #define ICECOPPICE_FILE_RECORDS    16 /* it has fewer than 16 + 8 times n bytes */
 #define ICECOPPICE_LENT_LENGTH     17 /* the reader: a lent load slice is shorter than n */
+#define ICECOPPICE_BUFFER_LENGTH   18 /* the writer: the lent buffer is shorter than the file */
 #define ICECOPPICE_SLOT_NUMBER     19 /* the look-up: the slot number is not below n */
 #define ICECOPPICE_FIRST_LENGTH    21 /* the first slice has 0 entries or more than 64 */
 #define ICECOPPICE_OTHER_LENGTH    22 /* another slice has a different length */
@@ -52,7 +57,7 @@ extern "C" {
 #define ICECOPPICE_BRIDGES         24 /* h > 0 and h + 1 >= len */
 #define ICECOPPICE_WINDOW_COUNTS   25 /* the least windows above the most, or the most above n */
 #define ICECOPPICE_COVERED_COUNTS  26 /* the least covered above the most, or the most above n */
-#define ICECOPPICE_CROSSED         31 /* the filter: a slot's lowest load above its highest */
+#define ICECOPPICE_CROSSED         31 /* the filter, the writer: a slot's lowest load above its highest */
 #define ICECOPPICE_UNREACHED       32 /* the watch: a state that no accepted start and steps lead to */
 #define ICECOPPICE_FULL            33 /* the watch: 1,000,000 slots already taken */
 
@@ -92,6 +97,13 @@ struct icecoppice_found {
     int32_t lowest, highest; /* the load range of the slot */
 };
 
+/* What the writer answers. All fields but the code are 0 where their comment does not apply. */
+struct icecoppice_writing {
+    uint16_t code; /* 0, or a refusal: 21 to 26, 31, then 18 */
+    size_t slot;   /* with code 31: the first slot whose lowest load is above its highest */
+    size_t length; /* code 0: how many bytes the file has */
+};
+
 /*
  * The state of a watch: its settings, its counts, and what is left to the active window, the one that the next slot may
  * still lie in. The caller keeps it; after each step the state that comes back replaces the one that went in.
@@ -120,7 +132,7 @@ struct icecoppice_stepped {
 };
 
 /*
- * The settings, in the filter and the judge:
+ * The settings, in the filter, the judge and the writer:
  *   k                threshold; a load above it is over
  *   len              the most slots of a window
  *   h                the most bridges of a window
@@ -158,6 +170,18 @@ struct icecoppice_reading icecoppice_read(const uint8_t *file, size_t file_lengt
 
 /* Gives the load range of one slot of a form 1 file; slots are numbered from 0. */
 struct icecoppice_found icecoppice_look_up(const uint8_t *file, size_t file_length, size_t slot);
+
+/*
+ * Writes a request as a form 1 file without a note, into the first bytes of the buffer, whose later bytes hold what
+ * they held before. It is stored as given, whether it has a plan or not; on a refusal the whole buffer holds what it
+ * held before. What the filter would refuse is refused, so lowest and highest have one length.
+ */
+struct icecoppice_writing icecoppice_write(int32_t k, uint16_t len, uint16_t h,
+                                           uint16_t windows_least, uint16_t windows_most,
+                                           uint16_t covered_least, uint16_t covered_most,
+                                           const int32_t *lowest, size_t lowest_length,
+                                           const int32_t *highest, size_t highest_length,
+                                           uint8_t *buffer, size_t buffer_length);
 
 /* Starts a watch. */
 struct icecoppice_started icecoppice_watch_start(int32_t k, uint16_t len, uint16_t h);

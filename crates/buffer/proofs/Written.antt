@@ -1,10 +1,11 @@
 -- Bytes written one after another are one list of bytes.
 use Prim.Native.Nat.{ℕ, _+_, _≤_, _<_, min}
+use native.Mathlib.Nat.{zero-add}
 use native.Mathlib.Omega.{arith}
-use mathlib.Core.List.{List, [], _∷_, _++_}
+use mathlib.Core.List.{List, [], _∷_, _++_, flatten, append-nil}
 use mathlib.Core.Path.{_≡_, refl, sym, ap, _∙_}
 use lib.ListN.{length, getD, drop, set, length-append, drop-of-length-le}
-use lib.Seq.{set-out, sets, length-sets}
+use lib.Seq.{set-out, sets, sets-eq, length-sets}
 use Rattle.facts.proofs.Lists.{uncons, sets-clipped, sets-append}
 use Rattle.buffer.specs.Written.{Written}
 
@@ -22,6 +23,12 @@ written-nil bound = record { stored = refl; ends = omega arith }
 pub written-length : {s before after : List ℕ} {p q : ℕ} → Written s p before after q → length after ≡ length before
 written-length {s} {before} {after} {p} w = ap length (w .stored) ∙ length-sets before p s
 
+-- a text that fits is at the front, and the rest of the buffer is as it was
+pub written-whole : {s before after : List ℕ} {q : ℕ} → Written s 0 before after q → length s ≤ length before →
+    (q ≡ length s) × (after ≡ s ++ drop (length s) before)
+written-whole {s} {before} w fits =
+    (omega (arith, w .ends), w .stored ∙ rw zero-add at (sets-eq s before 0 (omega arith)))
+
 module _ {s t : List ℕ} {p q r : ℕ} {before between after : List ℕ} where
   pub written-append : Written s p before between q → Written t q between after r → Written (s ++ t) p before after r
   written-append v w =
@@ -35,6 +42,17 @@ module _ {s t : List ℕ} {p q r : ℕ} {before between after : List ℕ} where
             ∙ sets-append s t before p;
         ends = omega (arith, length-append s t, v .ends, w .ends);
       }
+
+-- fields, one after another
+module _ (field : List ℕ) {p q : ℕ} {before between : List ℕ} where
+  pub written-last : Written field p before between q → Written (flatten (field ∷ [])) p before between q
+  unfolding flatten
+  written-last v = rw (append-nil field) v
+
+  pub written-more : (fields : List (List ℕ)) {r : ℕ} {after : List ℕ} → Written field p before between q →
+      Written (flatten fields) q between after r → Written (flatten (field ∷ fields)) p before after r
+  unfolding flatten
+  written-more fields v w = written-append v w
 
 -- a text in the middle of its writing: to write the rest from `here` on is to write the whole text from `place` on
 pub record LeftToWrite (text : List ℕ) (place : ℕ) (before rest : List ℕ) (now : List ℕ) (here : ℕ) : Type 0 where

@@ -1,4 +1,4 @@
--- What a caller can tell from the code of what the reader and the look-up give.
+-- What a caller can tell from the code of what the reader, the look-up and the writer give.
 use Prim.Native.Nat.{ℕ}
 use mathlib.Core.Path.{_≡_, refl, ap, _∙_}
 use Rattle.refusals.proofs.Injective.{eleven-le-number}

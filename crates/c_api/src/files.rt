@@ -1,13 +1,17 @@
-// Form 1 files for C: the reader, and the look-up by slot number.
+// Form 1 files for C: the reader, the look-up by slot number, and the writer.
 ghost use mathlib.Core.Path.{_≡_};
 ghost use Rattle.card.specs.LookUp.{looking};
 ghost use Rattle.c_api.specs.FileNumbers.{ReadsInNumbers, readingNumbers, foundNumbers};
+ghost use Rattle.c_api.specs.FileNumbers.{WritesInNumbers};
+ghost use Rattle.c_api.specs.Numbers.{settingsOf};
 use crate::gather;
 use card::Found;
 use card::Reading;
 use card::look_up;
 use card::read;
 use settings::Settings;
+use writer::Writing;
+use writer::write;
 
 // What the reader gives, in numbers: the code 0, the number of slots and the settings, or the refusal's number and
 // zeros.
@@ -30,6 +34,15 @@ pub struct FoundNumbers {
     pub code: u16,
     pub lowest: i32,
     pub highest: i32,
+}
+
+// What the writer gives, in numbers: the code 0 and the file's length, or the refusal's number, and for 31 also the
+// slot.
+#[repr(C)]
+pub struct WritingNumbers {
+    pub code: u16,
+    pub slot: usize,
+    pub length: usize,
 }
 
 #[no_mangle]
@@ -63,6 +76,47 @@ pub extern "C" fn icecoppice_look_up(file: &[u8], slot: usize) -> FoundNumbers
             code: 0,
             lowest: range.lowest,
             highest: range.highest,
+        },
+    }
+}
+
+#[no_mangle]
+pub extern "C" fn icecoppice_write(
+    k: i32,
+    len: u16,
+    h: u16,
+    windows_least: u16,
+    windows_most: u16,
+    covered_least: u16,
+    covered_most: u16,
+    lowest: &[i32],
+    highest: &[i32],
+    out: &mut [u8],
+) -> WritingNumbers
+    ensures { λ r. ⌜ WritesInNumbers
+        (settingsOf k len h «windows_least» «windows_most» «covered_least» «covered_most»)
+        (now (lowest .entry)) (now (highest .entry)) (now (out .entry)) r (now (out .exit)) ⌝ }
+{
+    let settings = gather(
+        k,
+        len,
+        h,
+        windows_least,
+        windows_most,
+        covered_least,
+        covered_most,
+    );
+    let writing = write(settings, lowest, highest, out);
+    match writing {
+        Writing::Refused(refusal) => WritingNumbers {
+            code: refusal.number(),
+            slot: refusal.slot(),
+            length: 0,
+        },
+        Writing::Stored { length } => WritingNumbers {
+            code: 0,
+            slot: 0,
+            length,
         },
     }
 }

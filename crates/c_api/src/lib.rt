@@ -1,5 +1,5 @@
-// The filter, the judge, the reader, the look-up and the watch for C, on numbers and slices, under names that begin with
-// `icecoppice_`. include/icecoppice.h declares them.
+// The filter, the judge, the reader, the look-up, the writer and the watch for C, on numbers and slices, under names
+// that begin with `icecoppice_`. include/icecoppice.h declares them.
 ghost use mathlib.Core.Path.{_≡_};
 ghost use Rattle.judge.specs.Judgment.{judgment, meaning as Verdict·meaning};
 ghost use Rattle.filter.specs.AnswerMeaning.{meaning as Answer·meaning};
@@ -18,8 +18,10 @@ mod watches;
 
 pub use files::FoundNumbers;
 pub use files::ReadingNumbers;
+pub use files::WritingNumbers;
 pub use files::icecoppice_look_up;
 pub use files::icecoppice_read;
+pub use files::icecoppice_write;
 pub use watches::StartNumbers;
 pub use watches::StepNumbers;
 pub use watches::icecoppice_watch_start;

@@ -10,6 +10,7 @@ use crate::show::write_number;
 use crate::show::write_refusal;
 use crate::show::write_signed;
 use crate::text::HEXADECIMAL;
+use crate::written::again;
 use card::Found;
 use card::Reading;
 use rule::Shape;
@@ -21,11 +22,15 @@ use settings::Settings;
 pub fn read(line: &[u8]) {
     let mut all = [0u8; MANY];
     let n = bytes(line, second(line), HEXADECIMAL, &mut all);
-    records(&all[..n]);
-    file(&all[..n]);
+    contents(&all[..n]);
 }
 
-// Writes what a view gives for each slot, up to the first refusal.
+// Writes what a view gives for each slot, up to the first refusal, and what the reader gives.
+pub fn contents(bytes: &[u8]) {
+    records(bytes);
+    file(bytes);
+}
+
 fn records(file: &[u8]) {
     let mut slot = 0;
     while slot < PLACES {
@@ -55,7 +60,7 @@ fn viewed(file: &[u8], slot: usize) -> bool {
     }
 }
 
-// Writes what the reader gives, and what the filter answers to it.
+// Writes what the reader gives, and what the writer and the filter answer to it.
 fn file(file: &[u8]) {
     let mut lowest = [0i32; PLACES];
     let mut highest = [0i32; PLACES];
@@ -66,6 +71,7 @@ fn file(file: &[u8]) {
         }
         Reading::Taken { settings, n } => {
             write_settings(settings);
+            again(settings, n, &lowest, &highest, file);
             request(settings, n, n, &mut lowest, &mut highest);
         }
     }

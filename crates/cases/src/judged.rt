@@ -5,6 +5,7 @@ use crate::numbers::second;
 use crate::numbers::settings;
 use crate::numbers::third;
 use crate::show::write;
+use crate::show::write_bytes;
 use crate::show::write_count;
 use crate::show::write_line_feed;
 use crate::show::write_refusal;
@@ -46,19 +47,6 @@ pub fn chosen(line: &[u8]) {
     let m = bytes(line, at, DECIMAL, &mut first);
     let mut other = [0u8; PLACES];
     let o = bytes(line, after_byte(line, at, b';'), DECIMAL, &mut other);
-    write_plan(choose(settings(line), &loads[..n], &first[..m], &other[..o]));
-}
-
-fn write_plan(marks: &[u8]) {
-    write(b"marks");
-    let mut i = 0;
-    while i < marks.len() {
-        write_mark(marks[i]);
-        i += 1;
-    }
-    write_line_feed();
-}
-
-fn write_mark(m: u8) {
-    write_count(b" ", m as u16);
+    let plan = choose(settings(line), &loads[..n], &first[..m], &other[..o]);
+    write_bytes(b"marks", plan, DECIMAL);
 }

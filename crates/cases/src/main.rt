@@ -9,6 +9,7 @@ use crate::show::write;
 use crate::text::after_byte;
 use crate::watched::stepped;
 use crate::watched::watched;
+use crate::written::made;
 use libc::STDIN_FILENO;
 
 mod cards;
@@ -18,6 +19,7 @@ mod numbers;
 mod show;
 mod text;
 mod watched;
+mod written;
 
 fn main() {
     let mut buffer = io::large_buffer();
@@ -50,6 +52,7 @@ fn operation(letter: u8, line: &[u8]) {
         b'w' => watched(line),
         b's' => stepped(line),
         b'r' => read(line),
+        b'm' => made(line),
         _ => {}
     }
 }

@@ -28,7 +28,7 @@ use Rattle.settings.specs.Refusals.{refusal}
 use Rattle.rule.specs.Rule.{carries, shaped}
 use Rattle.rule.specs.declared.Shape.{Shape}
 use Rattle.settings.specs.declared.Settings.{Settings}
-use Rattle.c_api.specs.FileNumbers.{headerNumbers, foundNumbers}
+use Rattle.c_api.specs.FileNumbers.{headerNumbers, foundNumbers, writingNumbers}
 use Rattle.published.proofs.Corners.{recount}
 use Rattle.published.proofs.Examples.{examples}
 use Rattle.published.proofs.Theorems.{theorems}
@@ -45,7 +45,10 @@ use Rattle.watch.proofs.TestedIsReached.{tested→reached}
 use Rattle.watch.proofs.ReachedIsTested.{reached→tested}
 use Rattle.watch.proofs.RunsToLimit.{runs-to-limit, run-refusals}
 use Rattle.watch.proofs.StartAnswers
+use Rattle.writer.proofs.WriterAnswers
+use Rattle.writer.proofs.WriterAnswers.{writer-refuses, stores-accepted}
 use Rattle.demands.proofs.Delivers.{delivers, delivers-covered}
+use Rattle.demands.proofs.RoundTrip.{reads-back, writes-back, shortest}
 use Rattle.demands.proofs.WatchIsLeast.{watch-least}
 use Rattle.demands.specs.Demands.{Demand1, Judges, Demand2, Established, Contracts, Demands}
 use Rattle.filter.proofs.filter as Filter
@@ -59,12 +62,14 @@ use Rattle.card.proofs.look_up as LookUp
 use Rattle.view.proofs.view_of as ViewOf
 use Rattle.view.proofs.View.look_up as ViewLookUp
 use Rattle.view.proofs.viewed as Viewed
+use Rattle.writer.proofs.write as Write
 use Rattle.listing.proofs.write_answer as WriteAnswer
 use Rattle.listing.proofs.write_refusal as WriteRefusal
 use Rattle.c_api.proofs.icecoppice_filter as CFilter
 use Rattle.c_api.proofs.icecoppice_judge as CJudge
 use Rattle.c_api.proofs.icecoppice_read as CRead
 use Rattle.c_api.proofs.icecoppice_look_up as CLookUp
+use Rattle.c_api.proofs.icecoppice_write as CWrite
 use Rattle.c_api.proofs.icecoppice_watch_start as CStart
 use Rattle.c_api.proofs.icecoppice_watch_step as CStep
 use Rattle.buffer.proofs.put_byte as PutByte
@@ -80,6 +85,8 @@ use Rattle.least.proofs.least_counts as LeastCountsOf
 use Rattle.least.proofs.rows as Rows
 use Rattle.form1.proofs.open as Open
 use Rattle.form1.proofs.range_at as RangeAt
+use Rattle.form1.proofs.put_range as PutRange
+use Rattle.form1.proofs.put_trailer as PutTrailer
 use Rattle.refusals.proofs.Refusal.number as Number
 use Rattle.refusals.proofs.Refusal.slot as RefusedSlot
 
@@ -91,6 +98,7 @@ demand1 =
       start = StartAnswers.start-refuses;
       reader = reader-refuses;
       look-up = look-up-refuses;
+      writer = writer-refuses;
       decided = alike;
       unaltered = keeps→unaltered;
       chooser = chosen→chooses;
@@ -98,10 +106,12 @@ demand1 =
       run = λ w v loads taken f r. run-refusals r;
       run-to-limit = runs-to-limit;
       reader-unaltered = refused-unaltered;
+      writer-unaltered = WriterAnswers.refused-unaltered;
       filter-for-c = λ r numbers los his ms a. means a;
       judge-for-c = verdict-means;
       reader-for-c = code-means (λ a. headerNumbers a .code) (λ header. refl) (λ f. refl);
       look-up-for-c = code-means (λ a. foundNumbers a .code) (λ range. refl) (λ f. refl);
+      writer-for-c = code-means (λ a. writingNumbers a .code) (λ length. refl) (λ f. refl);
       start-for-c = start-means;
       step-for-c = λ w load numbers s. step-means s;
       numbers = number-slot-injective;
@@ -199,6 +209,10 @@ established =
       read-back = read-back;
       only-encoded = only-encoded;
       look-ups = look-up-agrees;
+      stores-accepted = stores-accepted;
+      reads-back = reads-back;
+      writes-back = writes-back;
+      shortest = shortest;
       decimals = decimals;
       texts = texts;
     }
@@ -217,12 +231,14 @@ contracts =
       view-of = record { meets = ViewOf.Met.met; total = λ M 𝓤 H A mem run κs a. (tt, λ g. refl) };
       view-look-up = record { meets = ViewLookUp.Met.met; total = λ M 𝓤 H A mem run κs a. (tt, λ g. refl) };
       viewed = record { meets = Viewed.Met.met; total = λ M 𝓤 H A mem run κs a. (tt, λ g. refl) };
+      write = record { meets = Write.Met.met; total = λ M 𝓤 H A mem run κs a. (tt, λ g. refl) };
       write-answer = record { meets = WriteAnswer.Met.met; total = λ M 𝓤 H A mem run κs a. (tt, λ g. refl) };
       write-refusal = record { meets = WriteRefusal.Met.met; total = λ M 𝓤 H A mem run κs a. (tt, λ g. refl) };
       filter-for-c = record { meets = CFilter.Met.met; total = λ M 𝓤 H A mem run κs a. (tt, λ g. refl) };
       judge-for-c = record { meets = CJudge.Met.met; total = λ M 𝓤 H A mem run κs a. (tt, λ g. refl) };
       read-for-c = record { meets = CRead.Met.met; total = λ M 𝓤 H A mem run κs a. (tt, λ g. refl) };
       look-up-for-c = record { meets = CLookUp.Met.met; total = λ M 𝓤 H A mem run κs a. (tt, λ g. refl) };
+      write-for-c = record { meets = CWrite.Met.met; total = λ M 𝓤 H A mem run κs a. (tt, λ g. refl) };
       start-for-c = record { meets = CStart.Met.met; total = λ M 𝓤 H A mem run κs a. (tt, λ g. refl) };
       step-for-c = record { meets = CStep.Met.met; total = λ M 𝓤 H A mem run κs a. (tt, λ g. refl) };
       put-byte = record { meets = PutByte.Met.met; total = λ M 𝓤 H A mem run κs a. (tt, λ g. refl) };
@@ -238,6 +254,8 @@ contracts =
       rows = record { meets = Rows.Met.met; total = λ M 𝓤 H A mem run κs a. (tt, λ g. refl) };
       «open» = record { meets = Open.Met.met; total = λ M 𝓤 H A mem run κs a. (tt, λ g. refl) };
       range-at = record { meets = RangeAt.Met.met; total = λ M 𝓤 H A mem run κs a. (tt, λ g. refl) };
+      put-range = record { meets = PutRange.Met.met; total = λ M 𝓤 H A mem run κs a. (tt, λ g. refl) };
+      put-trailer = record { meets = PutTrailer.Met.met; total = λ M 𝓤 H A mem run κs a. (tt, λ g. refl) };
       number = record { meets = Number.Met.met; total = λ M 𝓤 H A mem run κs a. (tt, λ g. refl) };
       slot = record { meets = RefusedSlot.Met.met; total = λ M 𝓤 H A mem run κs a. (tt, λ g. refl) };
     }

@@ -1,3 +1,4 @@
 pub mod Demands
 pub mod Delivers
+pub mod RoundTrip
 pub mod WatchIsLeast

@@ -5,7 +5,8 @@
 -- What an operation hands back is known from its contract, and from nothing else. What the filter hands back for a
 -- request r is an outcome o with `Keeps r o`: each line below that has `Keeps` speaks of it. What the judge answers
 -- is `judgment`, what the chooser hands back is `Chosen`, what a watch gives is `starting`, `Steps` and `Runs`, what
--- the reader leaves is `reading`, and what a look-up gives, also through a view, is `looking`.
+-- the reader leaves is `reading`, what a look-up gives, also through a view, is `looking`, and what the writer leaves
+-- is `writing`.
 use Prim.Native.Nat.{ℕ, _≤_, _<_, max}
 use mathlib.Core.Bool.{true, false}
 use mathlib.Core.List.{List}
@@ -49,14 +50,16 @@ use Rattle.form1.specs.Form1.{refusal as File·refusal}
 use Rattle.form1.specs.Layout.{ReadBack, OnlyEncoded}
 use Rattle.card.specs.Reading.{Header, lentTooShort, reading}
 use Rattle.card.specs.LookUp.{noSlot, looking, LookUpAgrees}
+use Rattle.writer.specs.Writing.{writerRefusal, writing, StoresAccepted}
 use Rattle.listing.specs.Cases.{Cases as Listing·Cases}
 use Rattle.listing.specs.Text.{Decimal}
-use Rattle.c_api.specs.FileNumbers.{headerNumbers, foundNumbers, CodeMeans}
+use Rattle.c_api.specs.FileNumbers.{headerNumbers, foundNumbers, writingNumbers, CodeMeans}
 use Rattle.c_api.specs.Numbers.{KeepsInNumbers, Means, VerdictMeans}
 use Rattle.c_api.specs.WatchNumbers.{StepsInNumbers, StartMeans, StepMeans}
 use Rattle.c_api.specs.declared.AnswerNumbers.{AnswerNumbers}
 use Rattle.c_api.specs.declared.watches.StepNumbers.{StepNumbers}
 use Rattle.demands.specs.Operation.{Operation}
+use Rattle.demands.specs.RoundTrip.{ReadsBack, WritesBack, Shortest}
 use Rattle.filter.proofs.filter as Filter
 use Rattle.judge.proofs.judge as Judge
 use Rattle.chooser.proofs.choose as Choose
@@ -68,12 +71,14 @@ use Rattle.card.proofs.look_up as LookUp
 use Rattle.view.proofs.view_of as ViewOf
 use Rattle.view.proofs.View.look_up as ViewLookUp
 use Rattle.view.proofs.viewed as Viewed
+use Rattle.writer.proofs.write as Write
 use Rattle.listing.proofs.write_answer as WriteAnswer
 use Rattle.listing.proofs.write_refusal as WriteRefusal
 use Rattle.c_api.proofs.icecoppice_filter as CFilter
 use Rattle.c_api.proofs.icecoppice_judge as CJudge
 use Rattle.c_api.proofs.icecoppice_read as CRead
 use Rattle.c_api.proofs.icecoppice_look_up as CLookUp
+use Rattle.c_api.proofs.icecoppice_write as CWrite
 use Rattle.c_api.proofs.icecoppice_watch_start as CStart
 use Rattle.c_api.proofs.icecoppice_watch_step as CStep
 use Rattle.buffer.proofs.put_byte as PutByte
@@ -89,6 +94,8 @@ use Rattle.least.proofs.least_counts as LeastCountsOf
 use Rattle.least.proofs.rows as Rows
 use Rattle.form1.proofs.open as Open
 use Rattle.form1.proofs.range_at as RangeAt
+use Rattle.form1.proofs.put_range as PutRange
+use Rattle.form1.proofs.put_trailer as PutTrailer
 use Rattle.refusals.proofs.Refusal.number as Number
 use Rattle.refusals.proofs.Refusal.slot as RefusedSlot
 
@@ -100,7 +107,7 @@ pub record Demand1 : Type 0 where
   -- the filter refuses with the first refusal that applies, and in no other situation
   pub filter : (r : Request) (o : Outcome) → Keeps r o → (f : Refusal) →
       (o .answer ≡ refuses f) ↔ (filterRefusal r ≡ some f)
-  -- so do the judge, a watch's start, the reader and the look-up
+  -- so do the judge, a watch's start, the reader, the look-up and the writer
   pub judge : (s : Settings) (loads : List ℤ) (marks : List ℕ) (f : Refusal) →
       (judgment s loads marks ≡ refuses f) ↔ (judgeRefusal s loads marks ≡ some f)
   pub start : (k : ℤ) (shape : Shape) (f : Refusal) → (starting k shape ≡ refuses f) ↔ (startRefusal shape ≡ some f)
@@ -108,6 +115,8 @@ pub record Demand1 : Type 0 where
       (reading file los his .answer ≡ refuses f) ↔ (File·refusal (row Lent (lentTooShort los his file)) file ≡ some f)
   pub look-up : (slot : ℕ) (file : List ℕ) (f : Refusal) →
       (looking slot file ≡ refuses f) ↔ (File·refusal (row Slot (noSlot slot file)) file ≡ some f)
+  pub writer : (s : Settings) (los his : List ℤ) (buffer : List ℕ) (f : Refusal) →
+      (writing s los his buffer .answer ≡ refuses f) ↔ (writerRefusal s los his buffer ≡ some f)
   -- the filter's promise decides the answer and both load slices: nothing is left open but which plan is handed back
   pub decided : (r : Request) (o p : Outcome) → Keeps r o → Keeps r p → Alike o p
   pub unaltered : (r : Request) (o : Outcome) → Keeps r o →
@@ -126,6 +135,9 @@ pub record Demand1 : Type 0 where
   -- where the reader refuses, it leaves both slices as they were
   pub reader-unaltered : (file : List ℕ) (los his : List ℤ) (f : Refusal) → reading file los his .answer ≡ refuses f →
       (reading file los his .lowest ≡ los) × (reading file los his .highest ≡ his)
+  -- where the writer refuses, it leaves the buffer as it was
+  pub writer-unaltered : (s : Settings) (los his : List ℤ) (buffer : List ℕ) (f : Refusal) →
+      writing s los his buffer .answer ≡ refuses f → writing s los his buffer .buffer ≡ buffer
   -- for C, the numbers tell which of these answers it was, and the filter's lent slices are as it leaves them
   pub filter-for-c : (r : Request) (numbers : AnswerNumbers) (los his : List ℤ) (ms : List ℕ) →
       KeepsInNumbers r numbers los his ms →
@@ -133,6 +145,7 @@ pub record Demand1 : Type 0 where
   pub judge-for-c : (s : Settings) (loads : List ℤ) (marks : List ℕ) → VerdictMeans s loads marks
   pub reader-for-c : (a : Answer Header) → CodeMeans a (headerNumbers a .code)
   pub look-up-for-c : (a : Answer Range) → CodeMeans a (foundNumbers a .code)
+  pub writer-for-c : (a : Answer ℕ) → CodeMeans a (writingNumbers a .code)
   pub start-for-c : StartMeans
   pub step-for-c : (w : Watch) (load : ℤ) (numbers : StepNumbers) → StepsInNumbers w load numbers →
       StepMeans w load numbers
@@ -255,6 +268,11 @@ pub record Established : Type 0 where
   pub read-back : ReadBack
   pub only-encoded : OnlyEncoded
   pub look-ups : LookUpAgrees
+  -- the writer stores what the filter does not refuse; writer and reader undo each other; no file is shorter
+  pub stores-accepted : StoresAccepted
+  pub reads-back : ReadsBack
+  pub writes-back : WritesBack
+  pub shortest : Shortest
   -- numbers as text, and the texts that document 01 prints
   pub decimals : (n : ℕ) → Decimal n
   pub texts : Listing·Cases
@@ -270,12 +288,13 @@ pub record Contracts : Type 2 where
   pub start : Operation Start.Statement.statement Start.signature (λ M 𝓤. Start.spec 𝓤)
   pub step : Operation Step.Statement.statement Step.signature (λ M 𝓤. Step.spec 𝓤)
   pub run : Operation Run.Statement.statement Run.signature (λ M 𝓤. Run.spec 𝓤)
-  -- crates/card/src and crates/view/src/lib.rt
+  -- crates/card/src, crates/view/src/lib.rt and crates/writer/src/lib.rt
   pub read : Operation Read.Statement.statement Read.signature (λ M 𝓤. Read.spec 𝓤)
   pub look-up : Operation LookUp.Statement.statement LookUp.signature (λ M 𝓤. LookUp.spec 𝓤)
   pub view-of : Operation ViewOf.Statement.statement ViewOf.signature (λ M 𝓤. ViewOf.spec 𝓤)
   pub view-look-up : Operation ViewLookUp.Statement.statement ViewLookUp.signature (λ M 𝓤. ViewLookUp.spec 𝓤)
   pub viewed : Operation Viewed.Statement.statement Viewed.signature (λ M 𝓤. Viewed.spec 𝓤)
+  pub write : Operation Write.Statement.statement Write.signature (λ M 𝓤. Write.spec 𝓤)
   -- crates/listing/src
   pub write-answer : Operation WriteAnswer.Statement.statement WriteAnswer.signature (λ M 𝓤. WriteAnswer.spec 𝓤)
   pub write-refusal : Operation WriteRefusal.Statement.statement WriteRefusal.signature (λ M 𝓤. WriteRefusal.spec 𝓤)
@@ -284,10 +303,11 @@ pub record Contracts : Type 2 where
   pub judge-for-c : Operation CJudge.Statement.statement CJudge.signature (λ M 𝓤. CJudge.spec 𝓤)
   pub read-for-c : Operation CRead.Statement.statement CRead.signature (λ M 𝓤. CRead.spec 𝓤)
   pub look-up-for-c : Operation CLookUp.Statement.statement CLookUp.signature (λ M 𝓤. CLookUp.spec 𝓤)
+  pub write-for-c : Operation CWrite.Statement.statement CWrite.signature (λ M 𝓤. CWrite.spec 𝓤)
   pub start-for-c : Operation CStart.Statement.statement CStart.signature (λ M 𝓤. CStart.spec 𝓤)
   pub step-for-c : Operation CStep.Statement.statement CStep.signature (λ M 𝓤. CStep.spec 𝓤)
   -- what these share: a byte put into a buffer, the test of a load, checks, a slot's class and least counts, a file's
-  -- trailer and records, and the number and slot of a refusal
+  -- trailer and records, read and put, and the number and slot of a refusal
   pub put-byte : Operation PutByte.Statement.statement PutByte.signature (λ M 𝓤. PutByte.spec 𝓤)
   pub over : Operation Over.Statement.statement Over.signature (λ M 𝓤. Over.spec 𝓤)
   pub check : Operation Check.Statement.statement Check.signature (λ M 𝓤. Check.spec 𝓤)
@@ -301,6 +321,8 @@ pub record Contracts : Type 2 where
   pub rows : Operation Rows.Statement.statement Rows.signature (λ M 𝓤. Rows.spec 𝓤)
   pub «open» : Operation Open.Statement.statement Open.signature (λ M 𝓤. Open.spec 𝓤)
   pub range-at : Operation RangeAt.Statement.statement RangeAt.signature (λ M 𝓤. RangeAt.spec 𝓤)
+  pub put-range : Operation PutRange.Statement.statement PutRange.signature (λ M 𝓤. PutRange.spec 𝓤)
+  pub put-trailer : Operation PutTrailer.Statement.statement PutTrailer.signature (λ M 𝓤. PutTrailer.spec 𝓤)
   pub number : Operation Number.Statement.statement Number.signature (λ M 𝓤. Number.spec 𝓤)
   pub slot : Operation RefusedSlot.Statement.statement RefusedSlot.signature (λ M 𝓤. RefusedSlot.spec 𝓤)
 

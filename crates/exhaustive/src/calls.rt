@@ -1,8 +1,9 @@
 // Calls at and around the limits of document 01's table of refusals, by number. Each digit of a number chooses one part
 // of the call. From the lowest on there are 6 choices of len, 5 of h, 6 of the slots, 3 of the length of the marks, 16
 // of the window range, 16 of the covered range, 3 of the length of the highest loads, and 4 of the crossed slots. The
-// first two digits, with 64 slots, make the starts of a watch; the judge has no highest loads and no crossed slots.
-ghost use Prim.Native.Nat.{_≤_, _<_};
+// first two digits, with 64 slots, make the starts of a watch; the judge has no highest loads and no crossed slots; the
+// writer has a buffer in place of the marks.
+ghost use Prim.Native.Nat.{_+_, _≤_, _<_};
 use crate::numbers::saturating_sub;
 use rule::Shape;
 use settings::CountRange;
@@ -12,6 +13,7 @@ pub const STARTS: u32 = 30;
 
 pub const JUDGE_CALLS: u32 = 138240;
 
+// Calls of the filter, and of the writer.
 pub const FILTER_CALLS: u32 = 1658880;
 
 // The length of the first slice.
@@ -34,6 +36,13 @@ pub fn marks_length(call: u32) -> u16
     other_length(slots(call), call / 180 % 3)
 }
 
+// The length of the writer's buffer is around that of the file.
+pub fn buffer_length(call: u32) -> u16
+    ensures { λ r. ⌜ r ≤ 537 ⌝ }
+{
+    other_length(16 + 8 * slots(call), call / 180 % 3)
+}
+
 pub fn highest_length(call: u32) -> u16
     ensures { λ r. ⌜ r ≤ 66 ⌝ }
 {
@@ -41,8 +50,8 @@ pub fn highest_length(call: u32) -> u16
 }
 
 fn other_length(n: u16, digit: u32) -> u16
-    requires { ⌜ n ≤ 65 ⌝ }
-    ensures { λ r. ⌜ r ≤ 66 ⌝ }
+    requires { ⌜ n < 65535 ⌝ }
+    ensures { λ r. ⌜ r ≤ n + 1 ⌝ }
 {
     match digit {
         0 => n,

@@ -1,7 +1,9 @@
-// Compares refusals by the filter, the judge and the start of a watch with document 01's table, as table.rt has it.
+// Compares refusals by the filter, the judge, the writer and the start of a watch with document 01's table, as table.rt
+// has it.
 ghost use Prim.Native.Nat.{_≤_};
 use crate::answers::UNTOUCHED;
 use crate::answers::outcome_of;
+use crate::calls::buffer_length;
 use crate::calls::crossed;
 use crate::calls::highest_length;
 use crate::calls::lowest;
@@ -14,18 +16,21 @@ use crate::counts::end_line;
 use crate::counts::write;
 use crate::counts::write_count;
 use crate::table::refusal;
+use crate::table::writer_refusal;
 use filter::filter;
 use judge::Verdict;
 use judge::judge;
 use settings::Settings;
 use watch::Started;
 use watch::Watch;
+use writer::Writing;
 
 // What is called.
 pub enum Operation {
     Filter,
     Judge,
     Start,
+    Writer,
 }
 
 // A refusal's number, or 0, the slot of refusal 31, and whether the lent slices hold what they held before.
@@ -36,7 +41,7 @@ struct Refused {
 }
 
 // The numbers whose counts are printed; 0 stands for no refusal.
-const NUMBERS: [u32; 8] = [21, 22, 23, 24, 25, 26, 31, 0];
+const NUMBERS: [u32; 9] = [21, 22, 23, 24, 25, 26, 31, 18, 0];
 
 // Compares the calls whose number is below end, prints a line, and gives whether all agree.
 pub fn run(operation: Operation, end: u32) -> bool {
@@ -44,7 +49,7 @@ pub fn run(operation: Operation, end: u32) -> bool {
     let mut differ = 0;
     let mut call = 0;
     while call < end {
-        let number = refusal(call);
+        let number = expected(operation, call);
         met[number as usize] = add(met[number as usize], true);
         differ = add(differ, !agrees(operation, call, number));
         call += 1;
@@ -56,11 +61,21 @@ pub fn run(operation: Operation, end: u32) -> bool {
     differ == 0
 }
 
+fn expected(operation: Operation, call: u32) -> u16
+    ensures { λ r. ⌜ r ≤ 31 ⌝ }
+{
+    match operation {
+        Operation::Writer => writer_refusal(call),
+        _ => refusal(call),
+    }
+}
+
 fn agrees(operation: Operation, call: u32, number: u16) -> bool {
     match operation {
         Operation::Filter => filter_agrees(call, number),
         Operation::Judge => judged(call) == number,
         Operation::Start => started(call) == number,
+        Operation::Writer => writer_agrees(call, number),
     }
 }
 
@@ -72,6 +87,10 @@ fn filter_agrees(call: u32, number: u16) -> bool {
         marks_length(call) as usize,
         lowest(call),
     );
+    is_expected(refused, call, number)
+}
+
+fn is_expected(refused: Refused, call: u32, number: u16) -> bool {
     (refused.number == number)
         & ((number != 31) | (refused.slot == crossed(call) as usize))
         & ((number == 0) | refused.unaltered)
@@ -108,6 +127,60 @@ fn is_unaltered(before: [i32; 67], lowest: [i32; 67], highest: [i32; 67], marks:
     true
 }
 
+fn writer_agrees(call: u32, number: u16) -> bool {
+    let refused = written(
+        settings(call),
+        slots(call) as usize,
+        highest_length(call) as usize,
+        buffer_length(call) as usize,
+        lowest(call),
+    );
+    is_expected(refused, call, number)
+}
+
+// A file that does not have 16 + 8n bytes, or with an altered byte after it, counts as a refusal with 1.
+fn written(settings: Settings, n: usize, others: usize, size: usize, loads: [i32; 67]) -> Refused
+    requires { ⌜ (n ≤ 65) × (others ≤ 66) × (size ≤ 537) ⌝ }
+{
+    let highest = [0; 67];
+    let mut buffer = [UNTOUCHED; 538];
+    let writing = writer::write(
+        settings,
+        &loads[..n],
+        &highest[..others],
+        &mut buffer[..size],
+    );
+    match writing {
+        Writing::Refused(refusal) => Refused {
+            number: refusal.number(),
+            slot: refusal.slot(),
+            unaltered: is_untouched(buffer, 0),
+        },
+        Writing::Stored { length } => Refused {
+            number: if is_stored(length, n, buffer) { 0 } else { 1 },
+            slot: 0,
+            unaltered: false,
+        },
+    }
+}
+
+fn is_stored(length: usize, n: usize, buffer: [u8; 538]) -> bool
+    requires { ⌜ n ≤ 65 ⌝ }
+{
+    (length == 16 + 8 * n) & is_untouched(buffer, length)
+}
+
+fn is_untouched(buffer: [u8; 538], from: usize) -> bool {
+    let mut i = from;
+    while i < 538 {
+        if buffer[i] != UNTOUCHED {
+            return false;
+        }
+        i += 1;
+    }
+    true
+}
+
 fn judged(call: u32) -> u16 {
     let n = slots(call) as usize;
     let marked = marks_length(call) as usize;
@@ -133,13 +206,14 @@ fn write_operation(operation: Operation) {
         Operation::Filter => write(b"filter calls"),
         Operation::Judge => write(b"judge calls"),
         Operation::Start => write(b"watch starts"),
+        Operation::Writer => write(b"writer calls"),
     }
 }
 
 fn write_met(met: [u32; 32]) {
     write(b" met");
     let mut i = 0;
-    while i < 8 {
+    while i < 9 {
         write_number(NUMBERS[i], met);
         i += 1;
     }

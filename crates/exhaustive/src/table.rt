@@ -1,6 +1,7 @@
 // Document 01's table "Where each refusal is checked", for its places lengths, settings and slots. No function of the
 // planner is used here.
 ghost use Prim.Native.Nat.{_≤_};
+use crate::calls::buffer_length;
 use crate::calls::crossed;
 use crate::calls::highest_length;
 use crate::calls::marks_length;
@@ -13,11 +14,29 @@ use settings::Settings;
 pub fn refusal(call: u32) -> u16
     ensures { λ r. ⌜ r ≤ 31 ⌝ }
 {
+    request_refusal(call, marks_length(call) != slots(call))
+}
+
+// The same for a call of the writer: 18, of document 02's T-01, comes last.
+pub fn writer_refusal(call: u32) -> u16
+    ensures { λ r. ⌜ r ≤ 31 ⌝ }
+{
+    let number = request_refusal(call, false);
+    if (number == 0) & (buffer_length(call) < 16 + 8 * slots(call)) {
+        return 18;
+    }
+    number
+}
+
+// `different` says whether a slice other than the loads has another length.
+fn request_refusal(call: u32, different: bool) -> u16
+    ensures { λ r. ⌜ r ≤ 31 ⌝ }
+{
     let n = slots(call);
     if (n == 0) | (n > 64) {
         return 21;
     }
-    if (highest_length(call) != n) | (marks_length(call) != n) {
+    if (highest_length(call) != n) | different {
         return 22;
     }
     let wrong = wrong_settings(settings(call), n);

@@ -1,8 +1,8 @@
 -- Numbers at places of a file, byte by byte.
-use Prim.Native.Nat.{ℕ, suc, _+_, _-_, _*_, _<_}
+use Prim.Native.Nat.{ℕ, suc, _+_, _-_, _*_, _/_, _<_}
 use native.Mathlib.Omega.{arith}
 use mathlib.Core.Bool.{Bool, true, false, cond}
-use mathlib.Core.List.{List, [], _∷_}
+use mathlib.Core.List.{List, [], _∷_, _++_}
 use mathlib.Core.Path.{_≡_, refl}
 use borrow.Author.Tests.{lt-ltb}
 use lib.Dec.{ltb}
@@ -13,6 +13,7 @@ use mir.Syntax.{w32}
 use mir.Val.{sel, toZ}
 use Rattle.facts.proofs.Lists.{uncons}
 use Rattle.form1.specs.Form1.{littleEndian, numberAt, signed}
+use Rattle.form1.specs.Layout.{bytes}
 
 pub numberAt-1 : (file : List ℕ) (place : ℕ) → place < length file → getD file place 0 ≡ numberAt 1 place file
 unfolding littleEndian numberAt
@@ -34,6 +35,11 @@ pub numberAt-4 : (file : List ℕ) (place : ℕ) → numberAt 2 place file + 655
     ≡ numberAt 4 place file
 unfolding numberAt
 numberAt-4 file place = rw (← drop-drop 2 place file) (halves (drop place file))
+
+-- a number in four bytes is its lower half and its upper half in two bytes each
+pub bytes-4 : (n : ℕ) → bytes 4 n ≡ bytes 2 n ++ bytes 2 (n / 65536)
+unfolding bytes
+bytes-4 n = let upper : n / 256 / 256 ≡ n / 65536 = omega arith in rw upper refl
 
 -- 32 bits, read as a signed number
 pub toZ-signed : (n : ℕ) → n < 4294967296 → toZ w32 n ≡ signed n

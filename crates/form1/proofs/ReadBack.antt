@@ -12,6 +12,7 @@ use mir.Syntax.{w32}
 use mir.Val.{SFits}
 use Rattle.rule.specs.declared.Range.{Range}
 use Rattle.refusals.specs.Table.{row, first}
+use Rattle.settings.proofs.Accepted.{Accepted, bridges-le}
 use Rattle.settings.specs.declared.Settings.{Settings}
 use Rattle.form1.specs.Form1.{littleEndian, signed, numberAt, signedAt, trailer, distance, slots, settings, form}
 use Rattle.form1.specs.Form1.{rangeOf, wrongSize, wrongEnd, wrongForm, wrongSlots, wrongDistance, recordsMissing}
@@ -177,4 +178,15 @@ read-back note rs s some few short-file loads k-fits =
       all-slots = n-read note rs s few;
       same-settings = settings-read note rs s few k-fits;
       same-ranges = range-read note rs s few loads;
+    }
+
+-- accepted settings of fewer than 256 slots fit into the bytes of a trailer
+pub accepted→fit : (n : ℕ) (s : Settings) → n < 256 → SFits w32 (s .k) → Accepted n s → FitSettings s
+accepted→fit n s few k a =
+    record {
+      k = k;
+      len = omega (arith, a .length);
+      h = omega (arith, bridges-le (s .shape) (a .bridges), a .length);
+      windows = (omega (arith, a .windows), omega (arith, a .windows));
+      covered = (omega (arith, a .covered), omega (arith, a .covered));
     }

@@ -8,7 +8,7 @@ use mathlib.Core.Logic.{⊎-elim}
 use mathlib.Core.Path.{_≡_, refl, sym, _∙_}
 use lib.IntN.{ℤ, pos}
 use lib.ListN.{length, drop, getD, set, length-append, List·getD-append}
-use lib.Seq.{append-snoc, getD-at, set-at}
+use lib.Seq.{append-snoc, ext-getD, getD-at, set-at}
 use Rattle.facts.proofs.Lists.{uncons}
 use Rattle.form1.specs.Form1.{tabulate}
 
@@ -24,6 +24,13 @@ tabulate-at (suc n) i f d bound =
     (λ e. rw e (getD-at (tabulate n f) (f n) [] d n (length-tabulate n f)))
     (λ l. List·getD-append (tabulate n f) (f n ∷ []) d i (rw (length-tabulate n f) l) ∙ tabulate-at n i f d l)
     (eq-or-lt-of-le (le-of-suc-le-suc bound))
+
+-- a list of n entries, of which entry i is f i
+pub tabulate-is : {A : Type 0} (n : ℕ) (f : ℕ → A) (d : A) (l : List A) → length l ≡ n →
+    ((i : ℕ) → i < n → getD l i d ≡ f i) → tabulate n f ≡ l
+tabulate-is n f d l long same =
+    ext-getD d (tabulate n f) l (length-tabulate n f ∙ sym long) (λ i bound.
+    let inside : i < n = rw (length-tabulate n f) at bound in tabulate-at n i f d inside ∙ sym (same i inside))
 
 -- a slice whose first n places are filled
 module _ (f : ℕ → ℤ) (places : List ℤ) where

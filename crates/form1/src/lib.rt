@@ -1,7 +1,11 @@
-// Form 1, the file on the card: whether a file has this form, what its trailer says, and the record at a place.
-// specs/Form1.antt defines the form, specs/Opening.antt what comes back.
+// Form 1, the file on the card: whether a file has this form, what its trailer says, and the record at a place; and a
+// record and a trailer put at a place. specs/Form1.antt and specs/Layout.antt define the form, specs/Opening.antt what
+// comes back.
 ghost use mathlib.Core.Path.{_≡_};
+ghost use Rattle.buffer.specs.Written.{Written};
+ghost use Rattle.form1.specs.Layout.{recordBytes};
 ghost use Rattle.form1.specs.Opening.{meaning, opening, rangeAt};
+use crate::bytes::put_signed;
 use crate::bytes::signed_at;
 use crate::check::check;
 use crate::fields::settings;
@@ -15,6 +19,9 @@ use settings::Settings;
 mod bytes;
 mod check;
 mod fields;
+
+pub use fields::TRAILER;
+pub use fields::put_trailer;
 
 // How many bytes a record has.
 pub const RECORD: usize = 8;
@@ -66,4 +73,12 @@ pub fn range_at(file: &[u8], place: usize) -> Range
         lowest: signed_at(file, place),
         highest: signed_at(file, place + 4),
     }
+}
+
+// Puts a record at a place, as far as it fits, and gives the place after it.
+pub fn put_range(range: Range, out: &mut [u8], place: usize) -> usize
+    ensures { λ r. ⌜ Written (recordBytes range) place (now (out .entry)) (now (out .exit)) r ⌝ }
+{
+    let highest = put_signed(range.lowest, out, place);
+    put_signed(range.highest, out, highest)
 }

@@ -7,8 +7,8 @@ use mathlib.Core.Path.{_≡_, refl, sym, _∙_}
 use lib.Dec.{eqb}
 use Rattle.refusals.specs.Numbers.{number, slot}
 use Rattle.refusals.specs.declared.Refusal.{Refusal}
-use Rattle.refusals.specs.declared.Refusal.the-variants.{Size, End, Form, Slots, Distance, Records, Lent, Slot}
-use Rattle.refusals.specs.declared.Refusal.the-variants.{FirstLength, OtherLength, WindowLength, Bridges}
+use Rattle.refusals.specs.declared.Refusal.the-variants.{Size, End, Form, Slots, Distance, Records, Lent, Buffer}
+use Rattle.refusals.specs.declared.Refusal.the-variants.{Slot, FirstLength, OtherLength, WindowLength, Bridges}
 use Rattle.refusals.specs.declared.Refusal.the-variants.{WindowCounts, CoveredCounts, Crossed, Unreached, Full}
 
 abbrev refusalAt : (number slot : ℕ) → Refusal
@@ -20,6 +20,7 @@ refusalAt n i =
     (cond (eqb n 15) Distance
     (cond (eqb n 16) Records
     (cond (eqb n 17) Lent
+    (cond (eqb n 18) Buffer
     (cond (eqb n 19) Slot
     (cond (eqb n 21) FirstLength
     (cond (eqb n 22) OtherLength
@@ -28,7 +29,7 @@ refusalAt n i =
     (cond (eqb n 25) WindowCounts
     (cond (eqb n 26) CoveredCounts
     (cond (eqb n 31) (Crossed i)
-    (cond (eqb n 32) Unreached Full)))))))))))))))
+    (cond (eqb n 32) Unreached Full))))))))))))))))
 
 refusalAt-number-slot : (r : Refusal) → refusalAt (number r) (slot r) ≡ r
 refusalAt-number-slot Size = refl
@@ -38,6 +39,7 @@ refusalAt-number-slot Slots = refl
 refusalAt-number-slot Distance = refl
 refusalAt-number-slot Records = refl
 refusalAt-number-slot Lent = refl
+refusalAt-number-slot Buffer = refl
 refusalAt-number-slot Slot = refl
 refusalAt-number-slot FirstLength = refl
 refusalAt-number-slot OtherLength = refl
@@ -61,6 +63,7 @@ eleven-le-number Slots = omega arith
 eleven-le-number Distance = omega arith
 eleven-le-number Records = omega arith
 eleven-le-number Lent = omega arith
+eleven-le-number Buffer = omega arith
 eleven-le-number Slot = omega arith
 eleven-le-number FirstLength = omega arith
 eleven-le-number OtherLength = omega arith

@@ -1,8 +1,9 @@
--- Document 01's number of each refusal ("Where each refusal is checked"), and the slot that 31 carries.
+-- The number of each refusal (document 01, "Where each refusal is checked"; 18 is of document 02, T-01), and the slot
+-- that 31 carries.
 use Prim.Native.Nat.{ℕ}
 use Rattle.refusals.specs.declared.Refusal.{Refusal}
-use Rattle.refusals.specs.declared.Refusal.the-variants.{Size, End, Form, Slots, Distance, Records, Lent, Slot}
-use Rattle.refusals.specs.declared.Refusal.the-variants.{FirstLength, OtherLength, WindowLength, Bridges}
+use Rattle.refusals.specs.declared.Refusal.the-variants.{Size, End, Form, Slots, Distance, Records, Lent, Buffer}
+use Rattle.refusals.specs.declared.Refusal.the-variants.{Slot, FirstLength, OtherLength, WindowLength, Bridges}
 use Rattle.refusals.specs.declared.Refusal.the-variants.{WindowCounts, CoveredCounts, Crossed, Unreached, Full}
 
 abbrev pub number : Refusal → ℕ
@@ -13,6 +14,7 @@ number Slots = 14
 number Distance = 15
 number Records = 16
 number Lent = 17
+number Buffer = 18
 number Slot = 19
 number FirstLength = 21
 number OtherLength = 22
@@ -33,6 +35,7 @@ slot Slots = 0
 slot Distance = 0
 slot Records = 0
 slot Lent = 0
+slot Buffer = 0
 slot Slot = 0
 slot FirstLength = 0
 slot OtherLength = 0

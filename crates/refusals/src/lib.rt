@@ -2,8 +2,9 @@
 ghost use mathlib.Core.Path.{_≡_};
 ghost use Rattle.refusals.specs.Numbers.{number as Numbers·number, slot as Numbers·slot};
 
-// Every refusal, by the place that checks it: a file on the card (11 to 17, then 19), lengths and settings (21 to 26),
-// slots (31, which carries the first slot whose lowest load is above its highest), a step of the watch (32, then 33).
+// Every refusal, by its number: of a file on the card (11 to 17, then 19), of the writer's buffer (18), of lengths and
+// settings (21 to 26), of slots (31, which carries the first slot whose lowest load is above its highest), of a step of
+// the watch (32, then 33).
 pub enum Refusal {
     Size,
     End,
@@ -12,6 +13,7 @@ pub enum Refusal {
     Distance,
     Records,
     Lent,
+    Buffer,
     Slot,
     FirstLength,
     OtherLength,
@@ -42,6 +44,7 @@ impl Refusal {
             Refusal::Distance => 15,
             Refusal::Records => 16,
             Refusal::Lent => 17,
+            Refusal::Buffer => 18,
             Refusal::Slot => 19,
             Refusal::FirstLength => 21,
             Refusal::OtherLength => 22,

@@ -3,6 +3,7 @@ use Prim.Native.Nat.{_≤_}
 use native.Mathlib.Omega.{arith}
 use mathlib.Core.Path.{sym, ap, _∙_}
 use borrow.Author.Needs.{needs}
+use lib.ListN.{length}
 use Rattle.card.proofs.LookUpAgrees.{few-slots}
 use Rattle.card.specs.Reading.{meaning}
 use Rattle.settings.specs.Refusals.{limit}
@@ -33,6 +34,12 @@ enum-known-settings c = search needs
 write-settings-requires : tie.Need-write-settings-requires
 write-settings-requires c κs = search needs
 
+slice-aggregate-again : tie.Need-slice-aggregate-again
+slice-aggregate-again c = search needs
+
+slice-aggregate-again-2 : tie.Need-slice-aggregate-again-2
+slice-aggregate-again-2 c = search needs
+
 slice-aggregate-request : tie.Need-slice-aggregate-request
 slice-aggregate-request c = search needs
 
@@ -51,14 +58,19 @@ few c =
           (sym (ap (λ o. o .answer) (was-read c .read .ensures)) ∙ ap meaning (c .settings .given .1)),
     )
 
+-- both slices have so many places
+room : (c : tie.After-settings) → let n = c .settings .given .0 .1 .0 in let last = was-read c .read .last in
+    (n ≤ length (last .1 .0)) × (n ≤ length (last .1 .1 .0))
+room c =
+    let read = was-read c .read in (omega (arith, few c, read .kept .1 .0), omega (arith, few c, read .kept .1 .1 .0))
+
+again-requires : tie.Need-again-requires
+again-requires c κs = room (c .before .before .before .before)
+
 request-requires : tie.Need-request-requires
 request-requires c κs =
-    let known = c .before .before .before .before in
-    let read = was-read known .read in (
-      omega (arith, few known, read .kept .1 .0),
-      omega (arith, few known, read .kept .1 .1 .0),
-      omega (arith, few known),
-    )
+    let known = c .before .before .before .before .before .before .before in
+    (room known .0, room known .1, omega (arith, few known))
 
 returns : tie.Need-returns
 returns c = search needs
@@ -78,6 +90,9 @@ file-spec =
     write-line-feed-requires
     enum-known-settings
     write-settings-requires
+    slice-aggregate-again
+    slice-aggregate-again-2
+    again-requires
     slice-aggregate-request
     slice-aggregate-request-2
     request-requires

@@ -15,8 +15,8 @@ abbrev μ-loop : tie.MeasureT-loop
 loop-holds : tie.Need-loop-holds Inv-loop μ-loop
 loop-holds c = search needs
 
-refusal-requires : tie.Need-refusal-requires Inv-loop μ-loop
-refusal-requires c κs = search needs
+expected-requires : tie.Need-expected-requires Inv-loop μ-loop
+expected-requires c κs = search needs
 
 cast-add : tie.Need-cast-add Inv-loop μ-loop
 cast-add c = search needs
@@ -76,7 +76,7 @@ run-spec =
     Inv-loop
     μ-loop
     loop-holds
-    refusal-requires
+    expected-requires
     cast-add
     mul-add
     array-read-add

@@ -6,8 +6,8 @@ use borrow.Author.Needs.{needs}
 use types.Run.{miss}
 use Rattle.refusals.specs.Numbers.{slot}
 use Rattle.refusals.specs.declared.Refusal.{Refusal}
-use Rattle.refusals.specs.declared.Refusal.the-variants.{Size, End, Form, Slots, Distance, Records, Lent, Slot}
-use Rattle.refusals.specs.declared.Refusal.the-variants.{FirstLength, OtherLength, WindowLength, Bridges}
+use Rattle.refusals.specs.declared.Refusal.the-variants.{Size, End, Form, Slots, Distance, Records, Lent, Buffer}
+use Rattle.refusals.specs.declared.Refusal.the-variants.{Slot, FirstLength, OtherLength, WindowLength, Bridges}
 use Rattle.refusals.specs.declared.Refusal.the-variants.{WindowCounts, CoveredCounts, Crossed, Unreached, Full}
 use Rattle.refusals.proofs.Refusal.slot.Statement.{statement}
 use Rattle.refusals.proofs.Refusal.slot.Tie as tie
@@ -23,6 +23,7 @@ none-carried Slots n = refl
 none-carried Distance n = refl
 none-carried Records n = refl
 none-carried Lent n = refl
+none-carried Buffer n = refl
 none-carried Slot n = refl
 none-carried FirstLength n = refl
 none-carried OtherLength n = refl
@@ -36,10 +37,10 @@ none-carried Full n = refl
 
 -- the positions of all variants but that of 31
 abbrev others : List ℕ
-others = 0 ∷ 1 ∷ 2 ∷ 3 ∷ 4 ∷ 5 ∷ 6 ∷ 7 ∷ 8 ∷ 9 ∷ 10 ∷ 11 ∷ 12 ∷ 13 ∷ 15 ∷ 16 ∷ []
+others = 0 ∷ 1 ∷ 2 ∷ 3 ∷ 4 ∷ 5 ∷ 6 ∷ 7 ∷ 8 ∷ 9 ∷ 10 ∷ 11 ∷ 12 ∷ 13 ∷ 14 ∷ 16 ∷ 17 ∷ []
 
 returns-2 : tie.Need-returns-2
-returns-2 c = none-carried (c .before .args .self) (λ e. miss others 14 tt (rw e at (c .match .keys2)))
+returns-2 c = none-carried (c .before .args .self) (λ e. miss others 15 tt (rw e at (c .match .keys2)))
 
 pub slot-spec : {M : Type 1} → statement M
 slot-spec = tie.close (tie.spec (λ c. search needs) returns returns-2)

@@ -1,18 +1,15 @@
--- `cases::judged::write_plan` is safe and ends: it counts up to the number of marks.
+-- `cases::show::write_bytes` is safe and ends: it counts up to the number of bytes.
 use Prim.Native.Nat.{_-_, _≤_}
 use borrow.Author.Needs.{needs}
 use lib.ListN.{length}
-use Rattle.cases.proofs.judged.write_plan.Statement.{statement}
-use Rattle.cases.proofs.judged.write_plan.Tie as tie
+use Rattle.cases.proofs.show.write_bytes.Statement.{statement}
+use Rattle.cases.proofs.show.write_bytes.Tie as tie
 
 abbrev Inv-loop : tie.InvT-loop
-Inv-loop marks i₀ i = i ≤ length marks
+Inv-loop word bytes base i₀ i = i ≤ length bytes
 
 abbrev μ-loop : tie.MeasureT-loop
-μ-loop marks i₀ i = length marks - i
-
-slice-aggregate-write : tie.Need-slice-aggregate-write Inv-loop μ-loop
-slice-aggregate-write c = search needs
+μ-loop word bytes base i₀ i = length bytes - i
 
 write-requires : tie.Need-write-requires Inv-loop μ-loop
 write-requires c κs = search needs
@@ -20,11 +17,11 @@ write-requires c κs = search needs
 loop-holds : tie.Need-loop-holds Inv-loop μ-loop
 loop-holds c = search needs
 
-shared-slice-read-write-mark : tie.Need-shared-slice-read-write-mark Inv-loop μ-loop
-shared-slice-read-write-mark c = search needs
+shared-slice-read-write-byte : tie.Need-shared-slice-read-write-byte Inv-loop μ-loop
+shared-slice-read-write-byte c = search needs
 
-write-mark-requires : tie.Need-write-mark-requires Inv-loop μ-loop
-write-mark-requires c κs = search needs
+write-byte-requires : tie.Need-write-byte-requires Inv-loop μ-loop
+write-byte-requires c κs = search needs
 
 add-i : tie.Need-add-i Inv-loop μ-loop
 add-i c = search needs
@@ -41,17 +38,16 @@ write-line-feed-requires c κs = search needs
 returns : tie.Need-returns Inv-loop μ-loop
 returns c = search needs
 
-pub write-plan-spec : {M : Type 1} → statement M
-write-plan-spec =
+pub write-bytes-spec : {M : Type 1} → statement M
+write-bytes-spec =
     tie.close
     (tie.spec
     Inv-loop
     μ-loop
-    slice-aggregate-write
     write-requires
     loop-holds
-    shared-slice-read-write-mark
-    write-mark-requires
+    shared-slice-read-write-byte
+    write-byte-requires
     add-i
     loop-less
     loop-again

@@ -1,0 +1,2 @@
+pub mod WriterAnswers
+mod PutRecordsLoop
