@@ -2,8 +2,9 @@
  * The boost-window planner for C11: a filter that cuts load ranges and draws a plan, a judge of finished plans, a
  * reader and a writer of form 1 files, the camera's cards, and a watch, which counts windows slot by slot.
  *
- * Link with target/staticlib/libc_api.a (`rt staticlib c_api`, x86-64 Linux). The functions are proved for all values
- * of their arguments. Only the test in desk/ checks these declarations against their source, crates/c_api/src.
+ * Link with target/staticlib/libicecoppice.a (`rt staticlib icecoppice`, x86-64 Linux). The functions are proved for
+ * all values of their arguments. Only the test in desk/ checks these declarations against their source,
+ * crates/icecoppice/src.
  *
  * What a caller owes: each pointer is aligned and points to as many entries as its length says (a length of 0 asks
  * nothing of the pointer), and no slice lent to the filter, the reader or the writer overlaps another. The watch takes

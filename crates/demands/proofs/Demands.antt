@@ -10,9 +10,9 @@ use lib.IntN.{ℤ}
 use lib.ListN.{length}
 use Rattle.card.proofs.LookUpAgrees.{look-up-agrees}
 use Rattle.card.proofs.ReaderAnswers.{reader-refuses, look-up-refuses, refused-unaltered}
-use Rattle.c_api.proofs.CodeMeans.{code-means}
-use Rattle.c_api.proofs.Means.{means, verdict-means}
-use Rattle.c_api.proofs.WatchMeans.{start-means, step-means}
+use Rattle.icecoppice.proofs.CodeMeans.{code-means}
+use Rattle.icecoppice.proofs.Means.{means, verdict-means}
+use Rattle.icecoppice.proofs.WatchMeans.{start-means, step-means}
 use Rattle.chooser.proofs.Chooses.{chosen→chooses}
 use Rattle.judge.proofs.Allowed.{Allowed, allowed-iff, allowed→yes, yes→allowed, judgment-refuses}
 use Rattle.form1.proofs.ReadBack.{read-back}
@@ -28,7 +28,7 @@ use Rattle.settings.specs.Refusals.{refusal}
 use Rattle.rule.specs.Rule.{carries, shaped}
 use Rattle.rule.specs.declared.Shape.{Shape}
 use Rattle.settings.specs.declared.Settings.{Settings}
-use Rattle.c_api.specs.FileNumbers.{headerNumbers, foundNumbers, writingNumbers}
+use Rattle.icecoppice.specs.FileNumbers.{headerNumbers, foundNumbers, writingNumbers}
 use Rattle.published.proofs.Corners.{recount}
 use Rattle.published.proofs.Examples.{examples}
 use Rattle.published.proofs.Theorems.{theorems}
@@ -65,13 +65,13 @@ use Rattle.view.proofs.viewed as Viewed
 use Rattle.writer.proofs.write as Write
 use Rattle.listing.proofs.write_answer as WriteAnswer
 use Rattle.listing.proofs.write_refusal as WriteRefusal
-use Rattle.c_api.proofs.icecoppice_filter as CFilter
-use Rattle.c_api.proofs.icecoppice_judge as CJudge
-use Rattle.c_api.proofs.icecoppice_read as CRead
-use Rattle.c_api.proofs.icecoppice_look_up as CLookUp
-use Rattle.c_api.proofs.icecoppice_write as CWrite
-use Rattle.c_api.proofs.icecoppice_watch_start as CStart
-use Rattle.c_api.proofs.icecoppice_watch_step as CStep
+use Rattle.icecoppice.proofs.icecoppice_filter as CFilter
+use Rattle.icecoppice.proofs.icecoppice_judge as CJudge
+use Rattle.icecoppice.proofs.icecoppice_read as CRead
+use Rattle.icecoppice.proofs.icecoppice_look_up as CLookUp
+use Rattle.icecoppice.proofs.icecoppice_write as CWrite
+use Rattle.icecoppice.proofs.icecoppice_watch_start as CStart
+use Rattle.icecoppice.proofs.icecoppice_watch_step as CStep
 use Rattle.buffer.proofs.put_byte as PutByte
 use Rattle.rule.proofs.over as Over
 use Rattle.settings.proofs.check as Check

@@ -53,11 +53,11 @@ use Rattle.card.specs.LookUp.{noSlot, looking, LookUpAgrees}
 use Rattle.writer.specs.Writing.{writerRefusal, writing, StoresAccepted}
 use Rattle.listing.specs.Cases.{Cases as Listing·Cases}
 use Rattle.listing.specs.Text.{Decimal}
-use Rattle.c_api.specs.FileNumbers.{headerNumbers, foundNumbers, writingNumbers, CodeMeans}
-use Rattle.c_api.specs.Numbers.{KeepsInNumbers, Means, VerdictMeans}
-use Rattle.c_api.specs.WatchNumbers.{StepsInNumbers, StartMeans, StepMeans}
-use Rattle.c_api.specs.declared.AnswerNumbers.{AnswerNumbers}
-use Rattle.c_api.specs.declared.watches.StepNumbers.{StepNumbers}
+use Rattle.icecoppice.specs.FileNumbers.{headerNumbers, foundNumbers, writingNumbers, CodeMeans}
+use Rattle.icecoppice.specs.Numbers.{KeepsInNumbers, Means, VerdictMeans}
+use Rattle.icecoppice.specs.WatchNumbers.{StepsInNumbers, StartMeans, StepMeans}
+use Rattle.icecoppice.specs.declared.AnswerNumbers.{AnswerNumbers}
+use Rattle.icecoppice.specs.declared.watches.StepNumbers.{StepNumbers}
 use Rattle.demands.specs.Operation.{Operation}
 use Rattle.demands.specs.RoundTrip.{ReadsBack, WritesBack, Shortest}
 use Rattle.filter.proofs.filter as Filter
@@ -74,13 +74,13 @@ use Rattle.view.proofs.viewed as Viewed
 use Rattle.writer.proofs.write as Write
 use Rattle.listing.proofs.write_answer as WriteAnswer
 use Rattle.listing.proofs.write_refusal as WriteRefusal
-use Rattle.c_api.proofs.icecoppice_filter as CFilter
-use Rattle.c_api.proofs.icecoppice_judge as CJudge
-use Rattle.c_api.proofs.icecoppice_read as CRead
-use Rattle.c_api.proofs.icecoppice_look_up as CLookUp
-use Rattle.c_api.proofs.icecoppice_write as CWrite
-use Rattle.c_api.proofs.icecoppice_watch_start as CStart
-use Rattle.c_api.proofs.icecoppice_watch_step as CStep
+use Rattle.icecoppice.proofs.icecoppice_filter as CFilter
+use Rattle.icecoppice.proofs.icecoppice_judge as CJudge
+use Rattle.icecoppice.proofs.icecoppice_read as CRead
+use Rattle.icecoppice.proofs.icecoppice_look_up as CLookUp
+use Rattle.icecoppice.proofs.icecoppice_write as CWrite
+use Rattle.icecoppice.proofs.icecoppice_watch_start as CStart
+use Rattle.icecoppice.proofs.icecoppice_watch_step as CStep
 use Rattle.buffer.proofs.put_byte as PutByte
 use Rattle.rule.proofs.over as Over
 use Rattle.settings.proofs.check as Check
@@ -298,7 +298,7 @@ pub record Contracts : Type 2 where
   -- crates/listing/src
   pub write-answer : Operation WriteAnswer.Statement.statement WriteAnswer.signature (λ M 𝓤. WriteAnswer.spec 𝓤)
   pub write-refusal : Operation WriteRefusal.Statement.statement WriteRefusal.signature (λ M 𝓤. WriteRefusal.spec 𝓤)
-  -- crates/c_api/src
+  -- crates/icecoppice/src
   pub filter-for-c : Operation CFilter.Statement.statement CFilter.signature (λ M 𝓤. CFilter.spec 𝓤)
   pub judge-for-c : Operation CJudge.Statement.statement CJudge.signature (λ M 𝓤. CJudge.spec 𝓤)
   pub read-for-c : Operation CRead.Statement.statement CRead.signature (λ M 𝓤. CRead.spec 𝓤)
