@@ -1,8 +1,15 @@
 #include "arguments.h"
 
 #include <errno.h>
+#include <stdio.h>
 #include <stdlib.h>
 #include <string.h>
+
+static _Noreturn void no_number(const char *text, long least, long most)
+{
+    fprintf(stderr, "%s: no number from %ld to %ld\n", text, least, most);
+    usage();
+}
 
 /* The number at the start of the text, which is moved past it. */
 static long number(const char **text, long least, long most)
@@ -11,7 +18,7 @@ static long number(const char **text, long least, long most)
     errno = 0;
     long value = strtol(*text, &end, 10);
     if (end == *text || errno != 0 || value < least || value > most)
-        usage();
+        no_number(*text, least, most);
     *text = end;
     return value;
 }
@@ -20,7 +27,7 @@ long whole_number(const char *text, long least, long most)
 {
     long value = number(&text, least, most);
     if (*text != '\0')
-        usage();
+        no_number(text, least, most);
     return value;
 }
 
@@ -33,6 +40,6 @@ struct range range(const char *text, long least, long most)
         r.highest = number(&text, least, most);
     }
     if (*text != '\0')
-        usage();
+        no_number(text, least, most);
     return r;
 }

@@ -1,4 +1,4 @@
-/* Numbers and ranges of a command line. A text that is none, or beyond its bounds, ends the program in its usage. */
+/* Numbers and ranges of a command line. A text that is none, or beyond its bounds, is named, and the usage follows. */
 #ifndef ARGUMENTS_H
 #define ARGUMENTS_H
 

@@ -177,3 +177,12 @@ int plan_burst(struct burst *b)
     print_answer(b, &a);
     return a.code == ICECOPPICE_YES ? 0 : 1;
 }
+
+int exit_code(int code)
+{
+    if (fflush(stdout) != 0 || ferror(stdout)) {
+        perror("standard output");
+        return 2;
+    }
+    return code;
+}

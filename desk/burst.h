@@ -26,6 +26,9 @@ void free_burst(struct burst *b);
  */
 int plan_burst(struct burst *b);
 
+/* The exit code of a program that has printed all: this one, or 2, with a word on why, if not all was written. */
+int exit_code(int code);
+
 void print_range(int32_t lowest, int32_t highest);
 
 /* Prints the number of a refusal and what it says, and the slot where it is about one: 19 and 31. */

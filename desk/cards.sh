@@ -1,7 +1,8 @@
 #!/usr/bin/env bash
 # Holds the plan printer to a stored output for every card of examples/, and the cards to their text. Case A is also
 # the stored run of the crate printer. Writes each card anew, which has to give what tools/card.py makes of its text
-# without the note; or the refusal that the printer writes, and no card.
+# without the note; or the refusal that the printer writes, and no card. What `plan` draws for a card has to be what
+# `edit` draws for the one written.
 set -euo pipefail
 cd "$(dirname "$0")/.."
 fail() {
@@ -24,12 +25,15 @@ for card in examples/*.card; do
     new=$bare/new.card
     rm -f $new
     target/desk/edit "$card" $new > $bare/edit.out || [ $? = 1 ]
+    target/desk/plan "$card" > $bare/plan.out || [ $? = 1 ]
     read -r answer number _ < "$out"
     if [ "$answer" = refused ]; then
         grep -q "^refused $number[:,]" $bare/edit.out || fail "$card is not refused as by the printer"
+        tail -n 1 $bare/plan.out | diff $bare/edit.out - || fail "$card is not refused by plan as by edit"
         [ ! -e $new ] || fail "$card is refused, and was written anew"
     else
         cmp "$bare/$(basename "$card")" $new || fail "$card is written as something else"
+        tail -n +2 $bare/edit.out | diff - $bare/plan.out || fail "$card is drawn by plan as something else"
         written=$((written + 1))
     fi
     count=$((count + 1))

@@ -1,14 +1,16 @@
 /*
- * The boost-window planner for C11: a filter that cuts load ranges and draws a plan, a judge of finished plans, a
- * reader and a writer of form 1 files, the camera's cards, and a watch, which counts windows slot by slot.
+ * The boost-window planner for C11 and C++17: a filter that cuts load ranges and draws a plan, a judge of finished
+ * plans, a reader and a writer of form 1 files, the camera's cards, and a watch, which counts windows slot by slot.
  *
- * Link with target/staticlib/libicecoppice.a (`rt staticlib icecoppice`, x86-64 Linux). The functions are proved for
- * all values of their arguments. Only the test in desk/ checks these declarations against their source,
+ * Link with libicecoppice.a (x86-64 Linux); `make install` puts it where pkg-config finds it. The functions are proved
+ * for all values of their arguments. Only the test in desk/ checks these declarations against their source,
  * crates/icecoppice/src.
  *
  * What a caller owes: each pointer is aligned and points to as many entries as its length says (a length of 0 asks
  * nothing of the pointer), and no slice lent to the filter, the reader or the writer overlaps another. The watch takes
  * numbers only, and a caller owes it nothing.
+ *
+ * No function keeps state from one call to the next, so that any thread may call any of them on slices of its own.
  */
 #ifndef ICECOPPICE_H
 #define ICECOPPICE_H
@@ -34,7 +36,12 @@ extern "C" {
 /* The most slots that a watch takes. */
 #define ICECOPPICE_WATCH_SLOTS 1000000
 
-/* Marks: one byte per slot. */
+/*
+ * A load greater than the threshold is over, any other is under. A window is a run of slots that begins and ends with
+ * an over slot; every over slot lies in one, windows share no slot, and may touch. An under slot in a window is a
+ * bridge. A plan says which slots the windows cover, by marks, one byte per slot; they are legal for loads if all this
+ * holds and each window keeps the settings len and h.
+ */
 #define ICECOPPICE_UNCOVERED 0
 #define ICECOPPICE_FIRST     1 /* the first slot of a window */
 #define ICECOPPICE_LATER     2 /* a later slot of a window, with its load over the threshold */
@@ -139,6 +146,7 @@ struct icecoppice_stepped {
  *   h                the most bridges of a window
  *   windows_least..  the range of the number of windows
  *   covered_least..  the range of the number of covered slots
+ * No plan is held to the two minimums: they only raise the least numbers that the filter answers.
  */
 
 /*

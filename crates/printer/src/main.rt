@@ -10,6 +10,7 @@ ghost use Rattle.requests.specs.Promise.{Keeps};
 use card::Reading;
 use card::read;
 use filter::filter;
+use libc::STDERR_FILENO;
 use libc::STDIN_FILENO;
 use libc::STDOUT_FILENO;
 use settings::LIMIT;
@@ -33,7 +34,7 @@ fn main() {
     let file = input.bytes;
     let mut text = [0; MAX_LENGTH];
     let length = print(&file[..size], &mut text);
-    io::write_all(STDOUT_FILENO, &text[..length]);
+    write_output(&text[..length]);
 }
 
 // Reads standard input up to its end, or as much as is held.
@@ -43,6 +44,16 @@ fn read_input() -> Input
     let mut bytes = [0; HELD_BYTES];
     let size = io::read_full(STDIN_FILENO, &mut bytes);
     Input { bytes, size }
+}
+
+// Writes to standard output; where that does not take all of it, says so on standard error.
+fn write_output(text: &[u8]) {
+    if !io::write_all(STDOUT_FILENO, text) {
+        io::write_all(
+            STDERR_FILENO,
+            b"printer: standard output did not take the whole answer\n",
+        );
+    }
 }
 
 // Writes the text for a file, and gives its length.

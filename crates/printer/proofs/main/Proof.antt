@@ -11,8 +11,8 @@ slice-aggregate-print c =
     let read = c .before .before .read-input in
     sym (length-take-le (read .result .size) (read .result .bytes) (omega (arith, read .ensures)))
 
-slice-aggregate-write-all : tie.Need-slice-aggregate-write-all
-slice-aggregate-write-all c =
+slice-aggregate-write-output : tie.Need-slice-aggregate-write-output
+slice-aggregate-write-output c =
     let point = c .before .before in
     sym
     (length-take-le (point .print .result) (point .print .last .1 .0)
@@ -28,6 +28,6 @@ main-spec =
     (λ c. search needs)
     (λ c κs. search needs)
     (λ c. search needs)
-    slice-aggregate-write-all
+    slice-aggregate-write-output
     (λ c κs. search needs)
     (λ c. search needs))
