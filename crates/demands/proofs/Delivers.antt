@@ -12,7 +12,7 @@ use lib.ListN.{length}
 use Rattle.judge.proofs.Allowed.{Allowed, allowed-iff, yes→allowed}
 use Rattle.rule.proofs.Ranges.{chosen-length}
 use Rattle.rule.specs.Ranges.{ChosenIn}
-use Rattle.rule.specs.Rule.{legal, windows, covered}
+use Rattle.rule.specs.Rule.{legal, windows, covered, LeastOver}
 use Rattle.rule.specs.declared.Shape.{Shape}
 use Rattle.settings.specs.declared.CountRange.{CountRange}
 use Rattle.settings.specs.declared.Settings.{Settings}
@@ -24,22 +24,32 @@ use Rattle.requests.proofs.Outcomes.{keeps→planned, keeps→no-plan, no-plan�
 use Rattle.requests.proofs.Formed.{formed-iff, chosen-slots}
 use Rattle.requests.specs.Promise.{Outcome, Raised, YesFor, Keeps}
 use Rattle.requests.specs.Request.{Request, slots, paired, ranges, WellFormed, PlanOf, LeftAt}
-use Rattle.demands.specs.Demands.{Definition, Satisfied, Occurs, TrueLeast, Delivers, DeliversCovered}
+use Rattle.demands.specs.Demands.{Definition, Satisfied, Occurs, LeastNumber, TrueLeast, Delivers}
+use Rattle.demands.specs.Demands.{DeliversCovered}
 
--- the least count over all plans is the least maximum under which D is satisfied
-true-least : {r : Request} {D : Definition} {count : List ℕ → ℕ} {given returned : CountRange} →
-    ((ms : List ℕ) → PlanOf r ms → (count ms ≤ given .most) × Satisfied r D (count ms)) →
-    ((u : ℕ) → (u ≤ given .most) × Satisfied r D u → (ms : List ℕ) × PlanOf r ms × (count ms ≤ u)) →
-    Raised r count given returned → TrueLeast r D given returned
-true-least {r} {D} {given = given} into back raised =
-    let l = raised .least in
+-- the least count over the marks that P holds of is the least number that Q holds of
+least-number : (P : List ℕ → Type 0) (Q : ℕ → Type 0) {count : List ℕ → ℕ} {v : ℕ} →
+    ((ms : List ℕ) → P ms → Q (count ms)) → ((u : ℕ) → Q u → (ms : List ℕ) × P ms × (count ms ≤ u)) →
+    LeastOver P count v → LeastNumber Q v
+least-number P Q into back l =
     let (ms, p, e) = l .met in
     record {
+      met = subst Q e (into ms p);
+      least = λ u q. let (ms, p, few) = back u q in omega (arith, l .least ms p, few);
+    }
+
+-- u suffices as a maximum: D is satisfied under it
+abbrev Suffices : (r : Request) → Definition → (most u : ℕ) → Type 0
+Suffices r D most u = (u ≤ most) × Satisfied r D u
+
+-- the minimum handed back is the true least where the least count over all plans is the least maximum that suffices
+true-least : {r : Request} {D : Definition} {count : List ℕ → ℕ} {given returned : CountRange} →
+    (raised : Raised r count given returned) → LeastNumber (Suffices r D (given .most)) (raised .value) →
+    TrueLeast r D given returned
+true-least raised least =
+    record {
       value = raised .value;
-      least = record {
-        met = subst (λ u. (u ≤ given .most) × Satisfied r D u) e (into ms p);
-        least = λ u q. let (ms, p, few) = back u q in omega (arith, l .least ms p, few);
-      };
+      least = least;
       minimum = raised .minimum;
       maximum = raised .maximum;
     }
@@ -88,6 +98,11 @@ module _ (r : Request) (w : WellFormed r) where
         let (ms, p, e, few, short) = plan-of X yc _ S c most (le-refl _) (is X (wide X c) yc S .0 d) in
         (ms, p, few)
 
+    windows-number : {v : ℕ} → LeastOver (PlanOf r) windows v → LeastNumber (Suffices r D (s .windows .most)) v
+    windows-number =
+        least-number (PlanOf r) _ (λ ms p. (p .windows-fit, satisfied ms p _ (le-refl _)))
+        (λ u (most, q). planned u most q)
+
     occurs : (i : ℕ) (x : ℤ) → LeftAt r i x ↔ Occurs r D (s .windows .most) i x
     occurs i x = (
       (λ l. (
@@ -126,9 +141,9 @@ module _ (r : Request) (w : WellFormed r) where
             (λ none. no-plan→says r o kept w (λ ms p. none (satisfied ms p _ (p .windows-fit)))),
           );
           some = λ q. let (ms, p, few) = planned _ (le-refl _) q in plan→says-planned r o kept w ms p;
-          windows = λ n e. true-least
-              (λ ms p. (p .windows-fit, satisfied ms p _ (le-refl _))) (λ u (most, q). planned u most q)
-              (keeps→planned r o kept n e .windows);
+          windows = λ n e.
+              let few = keeps→planned r o kept n e .windows in
+              true-least few (windows-number (few .least));
           loads = λ n e i there x.
               let exact = keeps→planned r o kept n e .narrowed i there .exact x in
               ((λ held. occurs i x .0 (exact .0 held)), (λ q. exact .1 (occurs i x .1 q)));
@@ -147,22 +162,21 @@ module _ (r : Request) (w : WellFormed r) where
         let (ms, p, e, few, short) = plan-of X _ zc S c (le-refl _) most (is X (wide X c) zc S .0 d) in
         (ms, p, short)
 
+    covered-number : {v : ℕ} → LeastOver (PlanOf r) covered v → LeastNumber (Suffices r D (s .covered .most)) v
+    covered-number =
+        least-number (PlanOf r) _
+        (λ ms p.
+        let (X, c, e) = p .in-rule in (
+          p .covered-fit,
+          (X, c, sequencesOf 0 ms, is X (wide X c) _ _ .1 (drawn-by _ _ X ms _ _ e (p .windows-fit) (le-refl _))),
+        ))
+        (λ u (most, q). planned-within u most q)
+
     pub delivers-covered : (o : Outcome) → Keeps r o → DeliversCovered r D o
     delivers-covered o kept =
         record {
           some = λ q. let (ms, p, short) = planned-within _ (le-refl _) q in plan→says-planned r o kept w ms p;
-          covered = λ n e. true-least
-              (λ ms p.
-              let (X, c, e) = p .in-rule in (
-                p .covered-fit,
-                (
-                  X,
-                  c,
-                  sequencesOf 0 ms,
-                  is X (wide X c) _ _ .1
-                      (drawn-by _ _ X ms _ _ e (p .windows-fit) (le-refl _)),
-                ),
-              ))
-              (λ u (most, q). planned-within u most q)
-              (keeps→planned r o kept n e .covered);
+          covered = λ n e.
+              let short = keeps→planned r o kept n e .covered in
+              true-least short (covered-number (short .least));
         }

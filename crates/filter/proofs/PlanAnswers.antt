@@ -19,8 +19,9 @@ use Rattle.requests.proofs.SolutionKeeps.{solution-keeps}
 use Rattle.requests.proofs.Formed.{formed-iff, fits→plan}
 use Rattle.requests.specs.Promise.{no-plan, planned, Keeps}
 use Rattle.requests.specs.Request.{Request, slots, WellFormed}
-use Rattle.requests.specs.Solution.{classes, leastCoveredCount, leastWindowCount, possible, lowestLeft, highestLeft}
-use Rattle.requests.specs.Solution.{raised, plannedOutcome, unalteredOutcome, solution}
+use Rattle.requests.specs.Solution.{classes, possible, lowestLeft, highestLeft, raised, plannedOutcome}
+use Rattle.requests.specs.Solution.{unalteredOutcome, solution}
+use Rattle.least.specs.Counts.{Counted}
 use Rattle.least.specs.declared.LeastCounts.{LeastCounts}
 
 module _ (r : Request) (well : WellFormed r) where
@@ -37,18 +38,17 @@ module _ (r : Request) (well : WellFormed r) where
     pub whole-short : length (take (slots r) codes) ≤ limit
     whole-short = omega (arith, whole, short)
 
-  module _ (cs : List Class) (by : cs ≡ classes r) (least : LeastCounts) (few : least .windows ≡ leastWindowCount s cs)
-      (short : least .covered ≡ leastCoveredCount s cs) where
+  module _ (cs : List Class) (by : cs ≡ classes r) (least : LeastCounts) (counted : Counted s cs least) where
     pub no-plan-kept : s .covered .most < least .covered → Keeps r (unalteredOutcome r (gives no-plan))
     unfolding solution possible
     no-plan-kept e =
-        let none : possible s (classes r) ≡ false = rw (← by, ← short) (lt-leb _ _ e) in
+        let none : possible s (classes r) ≡ false = rw (← by, ← counted .1) (lt-leb _ _ e) in
         rw (well, none) at (solution-keeps r [] (λ _ some. absurd (true≢false (sym some ∙ none))))
 
     module _ (e : least .covered ≤ s .covered .most) where
       pub some-plan : possible s cs ≡ true
       unfolding possible
-      some-plan = rw (← short) (le-leb _ _ e)
+      some-plan = rw (← counted .1) (le-leb _ _ e)
 
       pub plan-kept : (ms : List ℕ) {w c : CountRange} {los his : List ℤ} →
           (legalBy allows (s .shape) cs ms ≡ true) × (windows ms ≤ s .windows .most) × (covered ms ≤ s .covered .most) →
@@ -62,6 +62,7 @@ module _ (r : Request) (well : WellFormed r) where
           })
       unfolding solution
       plan-kept ms (in-rule, fits-w, fits-c) w c (low, high) =
+          let (few, short) = counted in
           let good = formed-iff .0 well in
           let same = nonzero-same (s .shape) (good .pass .length .0) in
           let plan = fits→plan r good (record { in-rule = rw (← by, same) in-rule; few = fits-w; short = fits-c }) in

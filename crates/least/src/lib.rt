@@ -9,8 +9,9 @@ ghost use lib.ListN.{length, take};
 ghost use Rattle.settings.specs.Refusals.{limit, places};
 ghost use Rattle.requests.specs.Best.{usingOne};
 ghost use Rattle.rule.specs.ClassCodes.{decode, decodeAll};
+ghost use Rattle.least.specs.Counts.{Counted};
 ghost use Rattle.least.specs.Rows.{Row, RowAfter, leastFrom, insideFrom, firstBelow, extended};
-ghost use Rattle.requests.specs.Solution.{sentinel, leastCoveredCount, leastWindowCount};
+ghost use Rattle.requests.specs.Solution.{sentinel};
 use rule::OVER;
 use rule::UNDER;
 use settings::LIMIT;
@@ -188,8 +189,7 @@ fn fill_rows(settings: Settings, classes: &[u8], w: u16) -> Filled
 // Both least counts, read off the rows.
 fn counts_of_rows(settings: Settings, classes: &[u8]) -> LeastCounts
     requires { ⌜ length (now classes) ≤ limit ⌝ }
-    ensures { λ r. ⌜ (r .windows ≡ leastWindowCount settings (decodeAll (now (classes .entry))))
-        × (r .covered ≡ leastCoveredCount settings (decodeAll (now (classes .entry)))) ⌝ }
+    ensures { λ r. ⌜ Counted settings (decodeAll (now (classes .entry))) r ⌝ }
 {
     let last = fill_rows(settings, classes, settings.windows.most);
     let after = last.after;
@@ -223,8 +223,7 @@ pub fn rows(settings: Settings, classes: &[u8], w: u16) -> Filled
 // Both least counts of the first LIMIT slots, as `LeastCounts` says. The settings are not checked:
 // a len of 0 counts as 1.
 pub fn least_counts(settings: Settings, classes: &[u8]) -> LeastCounts
-    ensures { λ r. ⌜ (r .windows ≡ leastWindowCount settings (decodeAll (take limit (now (classes .entry)))))
-        × (r .covered ≡ leastCoveredCount settings (decodeAll (take limit (now (classes .entry))))) ⌝ }
+    ensures { λ r. ⌜ Counted settings (decodeAll (take limit (now (classes .entry)))) r ⌝ }
 {
     let n = at_most_limit(classes.len());
     counts_of_rows(settings, &classes[..n])

@@ -1,6 +1,5 @@
 -- The promise decides the answer and both load slices.
 use Prim.Native.Nat.{ℕ, _<_}
-use native.Mathlib.Nat.{le-antisymm}
 use native.Mathlib.Omega.{arith}
 use mathlib.Core.List.{List}
 use mathlib.Core.Option.{Option·some-ne-none, Option·some-injective}
@@ -10,7 +9,7 @@ use lib.Seq.{ext-getD}
 use lib.Signed.{_≤ℤ_, ≤ℤ-refl}
 use Rattle.facts.proofs.Integers.{≤ℤ-trans, ≤ℤ-antisym}
 use Rattle.refusals.specs.Answer.{Answer, refuses, gives}
-use Rattle.rule.proofs.LeastOver.{least-mono}
+use Rattle.rule.proofs.LeastOver.{least-unique}
 use Rattle.settings.proofs.Accepted.{countRange-ext}
 use Rattle.settings.specs.declared.CountRange.{CountRange}
 use Rattle.requests.proofs.ChosenIn.{in-slots}
@@ -27,8 +26,7 @@ module _ (r : Request) where
   raised-unique : (count : List ℕ → ℕ) (given w w′ : CountRange) → Raised r count given w →
       Raised r count given w′ → w ≡ w′
   raised-unique count given w w′ a b =
-      let v : a .value ≡ b .value =
-      le-antisymm (least-mono (λ ms p. p) (b .least) (a .least)) (least-mono (λ ms p. p) (a .least) (b .least)) in
+      let v = least-unique (a .least) (b .least) in
       countRange-ext w w′ (omega (arith, a .minimum, b .minimum)) (omega (arith, a .maximum, b .maximum))
 
   module _ (o p : Outcome) (n m : PlanCounts) (a : Planned r n o) (b : Planned r m p) (i : ℕ)

@@ -8,8 +8,8 @@ use mathlib.Core.Logic.{_⊎_, inl, inr, ⊎-elim}
 use mathlib.Core.Path.{_≡_, refl, sym, subst}
 use borrow.Author.Tests.{leb-true, leb-false}
 use lib.Dec.{leb}
-use Rattle.rule.specs.Ranges.{Class, allows}
-use Rattle.rule.specs.Rule.{legalBy, nonzero, windows, covered, LeastOver}
+use Rattle.rule.specs.Ranges.{Class}
+use Rattle.rule.specs.Rule.{windows, covered, LeastOver}
 use Rattle.rule.specs.declared.Shape.{Shape}
 use Rattle.requests.proofs.BestIsLeast.{best-le, best-le-covered, best-met}
 use Rattle.requests.specs.Best.{Fits, best, fewest}
@@ -85,31 +85,32 @@ module _ (T : ℕ) (shape : Shape) (cs : List Class) where
             least = λ ms g. best-le-covered T shape g;
           }
 
-      pub least-windows : LeastOver (Fits shape cs w c) windows (fewest T shape cs c 0 w)
-      least-windows =
-          let v = fewest T shape cs c 0 w in
-          let f : First c 0 v = fewest-first c 0 w (subst (λ v. best T shape cs v ≤ c) (omega arith) enough) in
-          let within : v ≤ w = f .first w (omega arith) enough in
-          let (ms, g) = best-met T shape cs v (omega (arith, f .enough)) in
+      abbrev v : ℕ
+      v = fewest T shape cs c 0 w
+
+      first : First c 0 v
+      first = fewest-first c 0 w (subst (λ v. best T shape cs v ≤ c) (omega arith) enough)
+
+      few-windows : {ms : List ℕ} → Fits shape cs w c ms → v ≤ windows ms
+      few-windows {ms} f =
+          let g : Fits shape cs (windows ms) c ms =
+          record { in-rule = f .in-rule; few = le-refl _; short = f .short } in
+          first .first (windows ms) (omega arith) (omega (arith, best-le-covered T shape g, f .short))
+
+      fewest-met : (ms : List ℕ) × Fits shape cs w c ms × (windows ms ≡ v)
+      fewest-met =
+          let within : v ≤ w = first .first w (omega arith) enough in
+          let (ms, g) = best-met T shape cs v (omega (arith, first .enough)) in
+          let fits : Fits shape cs w c ms =
           record {
-            met = (
-              ms,
-              record {
-                in-rule = g .in-rule;
-                few = omega (arith, within, g .few);
-                short = omega (arith, g .short, f .enough);
-              },
-              le-antisymm (g .few) (by-count f ms (g .in-rule) (omega (arith, g .short, f .enough))),
-            );
-            least = λ ms g. by-count f ms (g .in-rule) (g .short);
-          }
-        where
-          by-count : {v : ℕ} → First c 0 v → (ms : List ℕ) →
-              legalBy allows (nonzero shape) cs ms ≡ true → covered ms ≤ c →
-              v ≤ windows ms
-          by-count f ms e s =
-              let g : Fits shape cs (windows ms) c ms = record { in-rule = e; few = le-refl _; short = s } in
-              f .first (windows ms) (omega arith) (omega (arith, best-le-covered T shape g, s))
+            in-rule = g .in-rule;
+            few = omega (arith, within, g .few);
+            short = omega (arith, g .short, first .enough);
+          } in
+          (ms, fits, le-antisymm (g .few) (few-windows fits))
+
+      pub least-windows : LeastOver (Fits shape cs w c) windows v
+      least-windows = record { met = fewest-met; least = λ ms f. few-windows f }
 
 -- what the two least counts are, for all settings and classes
 module _ (s : Settings) (cs : List Class) where

@@ -73,9 +73,15 @@ module _ (r : Request) (good : Formed r) where
     unfolding possible
     enough = leb-true _ _ e
 
+    to-plan : (ms : List ℕ) → FitsAt s cs ms → PlanOf r ms
+    to-plan ms f = fits→plan r good f
+
+    to-fits : (ms : List ℕ) → PlanOf r ms → FitsAt s cs ms
+    to-fits ms p = plan→fits r good p
+
     -- a least count over the marks that fit the classes is one over the plans
     by-plans : {count : List ℕ → ℕ} {v : ℕ} → LeastOver (FitsAt s cs) count v → LeastOver (PlanOf r) count v
-    by-plans = least-congr (λ ms f. fits→plan r good f) (λ ms p. plan→fits r good p)
+    by-plans = least-congr to-plan to-fits
 
     kept : WellFormed r → Keeps r (plannedOutcome r ms)
     kept w = (

@@ -12,7 +12,8 @@ use Rattle.filter.proofs.PlanAnswers.{whole, whole-short, no-plan-kept,
 use Rattle.rule.specs.ClassCodes.{decodeAll}
 use Rattle.requests.proofs.Formed.{formed-iff}
 use Rattle.requests.specs.Request.{Request, requestOf, slots, WellFormed}
-use Rattle.requests.specs.Solution.{classes, leastCoveredCount, leastWindowCount}
+use Rattle.requests.specs.Solution.{classes}
+use Rattle.least.specs.Counts.{Counted}
 use Rattle.filter.proofs.plan.Statement.{statement}
 use Rattle.filter.proofs.plan.Tie as tie
 
@@ -45,9 +46,8 @@ least-counts-requires c κs = search needs
 -- both least counts: `least_counts` reads every slot of the request
 counts : (c : tie.After-least-counts) →
     let point = c .before .before in
-    let cs = decodeAll (take (slots (request point)) (point .classify .result)) in
-    (c .least-counts .result .windows ≡ leastWindowCount (request point .settings) cs)
-    × (c .least-counts .result .covered ≡ leastCoveredCount (request point .settings) cs)
+    Counted (request point .settings) (decodeAll (take (slots (request point)) (point .classify .result)))
+    (c .least-counts .result)
 counts c =
     let point = c .before .before in
     rw (take-all limit (take (slots (request point)) (point .classify .result))
@@ -63,8 +63,7 @@ same-length-2 c = search needs
 returns : tie.Need-returns
 returns c =
     let point = c .before .before .before .before .before in
-    let least-counts = counts (c .before .before .before) in
-    no-plan-kept _ (well point) _ (by-bytes point) _ (least-counts .0) (least-counts .1) (omega arith)
+    no-plan-kept _ (well point) _ (by-bytes point) _ (counts (c .before .before .before)) (omega arith)
 
 -- from where it is known that a plan exists, back to where the bytes are known
 abbrev classified : tie.Else1 → tie.After-classify
@@ -85,14 +84,13 @@ draw-requires c κs =
     let point = classified exists in
     let f = formed-iff .0 (well point) in
     let p = f .pass in
-    let wide = point .classify .ensures .0 in
-    let least-counts = counts (exists .before .before .before) in (
+    let wide = point .classify .ensures .0 in (
       whole-short _ (well point) _ wide,
       f .marked ∙ sym (whole _ (well point) _ wide),
       p .length .0,
       omega (arith, p .windows .1, p .slots .1),
       omega (arith, p .covered .1, p .slots .1),
-      some-plan _ (well point) _ (by-bytes point) _ (least-counts .0) (least-counts .1) (exists .if1 .left),
+      some-plan _ (well point) _ (by-bytes point) _ (counts (exists .before .before .before)) (exists .if1 .left),
     )
 
 narrow-requires : tie.Need-narrow-requires
@@ -122,8 +120,7 @@ returns-2 c =
     let drawn = narrowed .before .before .before .before .before in
     let exists = drawn .before .before .before in
     let point = classified exists in
-    let least-counts = counts (exists .before .before .before) in
-    plan-kept _ (well point) _ (by-bytes point) _ (least-counts .0) (least-counts .1) (exists .if1 .left) _
+    plan-kept _ (well point) _ (by-bytes point) _ (counts (exists .before .before .before)) (exists .if1 .left) _
     (drawn .draw .ensures)
     (c .before .raise .ensures) (c .raise2 .ensures) (narrowed .narrow .ensures)
 
