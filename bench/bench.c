@@ -103,7 +103,7 @@ static void compare(const struct request *r)
     struct icecoppice_answer x = ask(icecoppice_filter, &a), y = ask(plain_filter, &b);
     if (x.code != y.code || x.slot != y.slot ||
         x.windows_least != y.windows_least || x.windows_most != y.windows_most ||
-        x.covered_least != y.covered_least || x.covered_most != y.covered_most ||
+        x.covered_least != y.covered_least || x.covered_most != y.covered_most || x.thrift != y.thrift ||
         memcmp(a.lowest, b.lowest, sizeof a.lowest) != 0 || memcmp(a.highest, b.highest, sizeof a.highest) != 0) {
         printf("the library and plain C differ\n");
         exit(1);

@@ -19,7 +19,7 @@ struct row {
 };
 
 struct least_counts {
-    uint16_t windows, covered;
+    uint16_t windows, thrift, covered;
 };
 
 static uint16_t smaller(uint16_t a, uint16_t b)
@@ -68,17 +68,20 @@ static void next_row(const struct problem *p, const struct row *after, struct ro
 
 /*
  * Sets `after` to the row for w - 1 windows. Gives how many of the window counts 0 to w - 1 are too few for a plan
- * within the covered maximum.
+ * within the covered maximum, and sets `thrift` to the least covered count with the first that is not, if there is one.
  */
-static uint16_t rows(const struct problem *p, uint16_t w, struct row *after)
+static uint16_t rows(const struct problem *p, uint16_t w, struct row *after, uint16_t *thrift)
 {
     uint16_t exceeding = 0;
+    *thrift = NONE;
     for (size_t j = 0; j <= p->n; j++)
         after->least[j] = NONE;
     for (uint16_t i = 0; i < w; i++) {
         struct row row;
         next_row(p, after, &row);
         *after = row;
+        if (exceeding == i)
+            *thrift = row.least[0];
         exceeding += row.least[0] > p->covered_most;
     }
     return exceeding;
@@ -87,9 +90,10 @@ static uint16_t rows(const struct problem *p, uint16_t w, struct row *after)
 static struct least_counts least_counts(const struct problem *p)
 {
     struct row after, row;
-    uint16_t windows = rows(p, p->windows_most, &after);
+    uint16_t thrift;
+    uint16_t windows = rows(p, p->windows_most, &after, &thrift);
     next_row(p, &after, &row);
-    return (struct least_counts){windows, row.least[0]};
+    return (struct least_counts){windows, windows < p->windows_most ? thrift : row.least[0], row.least[0]};
 }
 
 static bool plan_left(const struct problem *p, size_t slot, enum slot_class settled)
@@ -116,6 +120,7 @@ static void draw(const struct problem *p, uint8_t *marks)
 {
     uint16_t windows = p->windows_most, covered = p->covered_most;
     bool inside = false;
+    uint16_t thrift;
     struct row after;
     for (size_t j = 0; j < p->n; j++) {
         if (inside && marks[j - 1] != ICECOPPICE_BRIDGE && after.least[j] <= covered)
@@ -124,7 +129,7 @@ static void draw(const struct problem *p, uint8_t *marks)
             marks[j] = p->classes[j] == UNDER ? ICECOPPICE_BRIDGE : ICECOPPICE_LATER;
             covered--;
         } else if (p->classes[j] == OVER) {
-            rows(p, windows, &after);
+            rows(p, windows, &after, &thrift);
             marks[j] = ICECOPPICE_FIRST;
             windows--;
             covered--;
@@ -189,5 +194,6 @@ struct icecoppice_answer plain_filter(int32_t k, uint16_t len, uint16_t h,
     answer.windows_most = windows_most;
     answer.covered_least = covered_least > least.covered ? covered_least : least.covered;
     answer.covered_most = covered_most;
+    answer.thrift = least.thrift;
     return answer;
 }

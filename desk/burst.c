@@ -162,6 +162,7 @@ static void print_answer(const struct burst *b, const struct icecoppice_answer *
     } else {
         print_counts("windows", a->windows_least, a->windows_most, b->windows);
         print_counts("covered", a->covered_least, a->covered_most, b->covered);
+        printf("thrift %u\n", a->thrift);
         print_picture(b);
         print_ranges(b);
     }

@@ -10,7 +10,7 @@ struct worked {
     struct settings settings; /* k, len, h, windows, covered */
     size_t n;
     int32_t ranges[2][8][2]; /* as given, and as they are afterwards */
-    struct icecoppice_answer answer; /* code, slot, windows, covered */
+    struct icecoppice_answer answer; /* code, slot, windows, covered, thrift */
     uint8_t marks[8];
 };
 
@@ -21,24 +21,28 @@ struct worked {
 #define RANGES_F {{1, 1}, {0, 1}, {1, 1}, {1, 1}, {0, 1}, {1, 1}, {0, 1}, {1, 1}}
 #define RANGES_I {{INT32_MAX, INT32_MAX}, {INT32_MAX, INT32_MAX}}
 #define RANGES_J {{1, 1}, {1, 1}, {1, 1}, {1, 1}, {1, 1}, {1, 1}, {1, 1}}
+#define RANGES_UNDER {{1, 1}, {0, 0}, {1, 1}}
+#define RANGES_OPEN {{1, 1}, {0, 1}, {1, 1}}
 
 static const struct worked cases[] = {
-    {"A", {0, 3, 0, 0, 1, 0, 4}, 4, {RANGES_A, {{1, 3}, {1, 4}, {5, 5}, {0, 0}}}, {0, 0, 1, 1, 3, 4}, {1, 2, 2, 0}},
-    {"B", {0, 3, 1, 0, 1, 0, 4}, 4, {RANGES_A, RANGES_A}, {0, 0, 1, 1, 3, 4}, {ANY}},
-    {"C", {0, 2, 0, 0, 1, 0, 4}, 4, {RANGES_A, RANGES_A}, {1, 0, 0, 0, 0, 0}, {ANY}},
-    {"D", {0, 3, 0, 0, 2, 0, 7}, 7, {RANGES_D, RANGES_D}, {0, 0, 2, 2, 4, 7}, {ANY}},
+    {"A", {0, 3, 0, 0, 1, 0, 4}, 4, {RANGES_A, {{1, 3}, {1, 4}, {5, 5}, {0, 0}}}, {0, 0, 1, 1, 3, 4, 3}, {1, 2, 2, 0}},
+    {"B", {0, 3, 1, 0, 1, 0, 4}, 4, {RANGES_A, RANGES_A}, {0, 0, 1, 1, 3, 4, 3}, {ANY}},
+    {"C", {0, 2, 0, 0, 1, 0, 4}, 4, {RANGES_A, RANGES_A}, {1, 0, 0, 0, 0, 0, 0}, {ANY}},
+    {"D", {0, 3, 0, 0, 2, 0, 7}, 7, {RANGES_D, RANGES_D}, {0, 0, 2, 2, 4, 7, 4}, {ANY}},
     {"E", {0, 3, 0, 0, 2, 0, 4}, 7,
-     {RANGES_D, {{0, 0}, {0, 0}, {1, 1}, {0, 1}, {1, 1}, {0, 1}, {1, 1}}}, {0, 0, 2, 2, 4, 4}, {ANY}},
+     {RANGES_D, {{0, 0}, {0, 0}, {1, 1}, {0, 1}, {1, 1}, {0, 1}, {1, 1}}}, {0, 0, 2, 2, 4, 4, 4}, {ANY}},
     {"F", {0, 5, 0, 0, 2, 0, 7}, 8,
-     {RANGES_F, {{1, 1}, {1, 1}, {1, 1}, {1, 1}, {0, 0}, {1, 1}, {1, 1}, {1, 1}}}, {0, 0, 2, 2, 7, 7}, {ANY}},
-    {"G", {0, 5, 0, 0, 4, 0, 8}, 8, {RANGES_F, RANGES_F}, {0, 0, 2, 4, 5, 8}, {ANY}},
-    {"H", {0, 1, 0, 0, 1, 0, 1}, 1, {{{0, 0}}, {{0, 0}}}, {0, 0, 0, 1, 0, 1}, {0}},
-    {"H, over", {0, 1, 0, 0, 0, 0, 1}, 1, {{{1, 1}}, {{1, 1}}}, {1, 0, 0, 0, 0, 0}, {ANY}},
-    {"I", {INT32_MAX, 1, 0, 0, 0, 0, 2}, 2, {RANGES_I, RANGES_I}, {0, 0, 0, 0, 0, 2}, {0, 0}},
-    {"J", {0, 3, 0, 0, 7, 0, 7}, 7, {RANGES_J, RANGES_J}, {0, 0, 3, 7, 7, 7}, {ANY}},
-    {"K", {0, 2, 1, 0, 1, 0, 4}, 4, {RANGES_A, RANGES_A}, {24, 0, 0, 0, 0, 0}, {ANY}},
+     {RANGES_F, {{1, 1}, {1, 1}, {1, 1}, {1, 1}, {0, 0}, {1, 1}, {1, 1}, {1, 1}}}, {0, 0, 2, 2, 7, 7, 7}, {ANY}},
+    {"G", {0, 5, 0, 0, 4, 0, 8}, 8, {RANGES_F, RANGES_F}, {0, 0, 2, 4, 5, 8, 7}, {ANY}},
+    {"H", {0, 1, 0, 0, 1, 0, 1}, 1, {{{0, 0}}, {{0, 0}}}, {0, 0, 0, 1, 0, 1, 0}, {0}},
+    {"H, over", {0, 1, 0, 0, 0, 0, 1}, 1, {{{1, 1}}, {{1, 1}}}, {1, 0, 0, 0, 0, 0, 0}, {ANY}},
+    {"I", {INT32_MAX, 1, 0, 0, 0, 0, 2}, 2, {RANGES_I, RANGES_I}, {0, 0, 0, 0, 0, 2, 0}, {0, 0}},
+    {"J", {0, 3, 0, 0, 7, 0, 7}, 7, {RANGES_J, RANGES_J}, {0, 0, 3, 7, 7, 7, 7}, {ANY}},
+    {"K", {0, 2, 1, 0, 1, 0, 4}, 4, {RANGES_A, RANGES_A}, {24, 0, 0, 0, 0, 0, 0}, {ANY}},
     {"D, windows 0..3, covered 0..4", {0, 3, 0, 0, 3, 0, 4}, 7,
-     {RANGES_D, {{0, 0}, {0, 1}, {1, 1}, {0, 1}, {1, 1}, {0, 1}, {1, 1}}}, {0, 0, 2, 3, 3, 4}, {ANY}},
+     {RANGES_D, {{0, 0}, {0, 1}, {1, 1}, {0, 1}, {1, 1}, {0, 1}, {1, 1}}}, {0, 0, 2, 3, 3, 4, 4}, {ANY}},
+    {"T-02, under", {0, 3, 0, 0, 3, 0, 3}, 3, {RANGES_UNDER, RANGES_UNDER}, {0, 0, 2, 3, 2, 3, 2}, {1, 0, 1}},
+    {"T-02, open", {0, 3, 0, 0, 3, 0, 3}, 3, {RANGES_OPEN, RANGES_OPEN}, {0, 0, 1, 3, 2, 3, 3}, {ANY}},
 };
 
 static struct request request_of(const struct worked *c)
@@ -87,7 +91,7 @@ void check_cases(void)
         struct icecoppice_answer a = compare_filter(&r);
         if (!as_worked(&cases[i], &a, &r)) {
             printf("case %s: ", cases[i].name);
-            fail("not as document 01 has it; left was:", &r);
+            fail("not as the documents have it; left was:", &r);
         }
     }
     check_higher_threshold();

@@ -52,15 +52,15 @@ void fail(const char *what, const struct request *r)
 
 static void print_answer(const char *whose, const struct icecoppice_answer *a)
 {
-    printf("%s: code %u slot %zu windows %u..%u covered %u..%u\n", whose, a->code, a->slot,
-           a->windows_least, a->windows_most, a->covered_least, a->covered_most);
+    printf("%s: code %u slot %zu windows %u..%u covered %u..%u thrift %u\n", whose, a->code, a->slot,
+           a->windows_least, a->windows_most, a->covered_least, a->covered_most, a->thrift);
 }
 
 bool same_answer(const struct icecoppice_answer *a, const struct icecoppice_answer *b)
 {
     return a->code == b->code && a->slot == b->slot &&
            a->windows_least == b->windows_least && a->windows_most == b->windows_most &&
-           a->covered_least == b->covered_least && a->covered_most == b->covered_most;
+           a->covered_least == b->covered_least && a->covered_most == b->covered_most && a->thrift == b->thrift;
 }
 
 bool same_buffers(const struct request *a, const struct request *b)
@@ -163,7 +163,8 @@ static bool is_yes_or_no(const struct request *given, const struct request *left
     return a->code == ICECOPPICE_YES && a->slot == 0 &&
            a->windows_least >= s->windows_least && a->windows_most == s->windows_most &&
            a->covered_least >= s->covered_least && a->covered_most == s->covered_most &&
-           a->windows_least <= a->windows_most && a->covered_least <= a->covered_most && parts_cut(given, left) &&
+           a->windows_least <= a->windows_most && a->covered_least <= a->covered_most &&
+           a->thrift <= a->covered_most && parts_cut(given, left) &&
            search_is_plan(s, left->lowest + MARGIN, left->highest + MARGIN, left->marks + MARGIN, left->lowest_length);
 }
 

@@ -160,16 +160,20 @@ static const struct drawings *drawings_of(size_t n, unsigned len, unsigned h)
     return all;
 }
 
-/* What occurs in the plans of a request. */
+/* What occurs in the plans of a request; the thrift is the least covered count of those with the fewest windows. */
 struct findings {
     bool planned;
     struct counts least;
+    unsigned thrift;
     bool under[SEARCH_SLOTS], over[SEARCH_SLOTS];
 };
 
 static void take_in(struct findings *f, const struct drawing *d, size_t n)
 {
-    if (!f->planned || d->counts.windows < f->least.windows)
+    bool fewer = !f->planned || d->counts.windows < f->least.windows;
+    if (fewer || (d->counts.windows == f->least.windows && d->counts.covered < f->thrift))
+        f->thrift = d->counts.covered;
+    if (fewer)
         f->least.windows = d->counts.windows;
     if (!f->planned || d->counts.covered < f->least.covered)
         f->least.covered = d->counts.covered;
@@ -226,6 +230,7 @@ struct icecoppice_answer search_filter(const struct settings *s, int32_t *lowest
         .windows_most = s->windows_most,
         .covered_least = larger(s->covered_least, f.least.covered),
         .covered_most = s->covered_most,
+        .thrift = (uint16_t)f.thrift,
     };
 }
 

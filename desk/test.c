@@ -179,13 +179,17 @@ static uint16_t code_with_maximums(struct request r, uint16_t windows_most, uint
     return compare_filter(&r).code;
 }
 
-/* With a maximum at the least count there is a plan; with a maximum one below it there is none. */
+/*
+ * With a maximum at the least count there is a plan; with a maximum one below it there is none. The thrift is such a
+ * count where the window maximum is the least number of windows.
+ */
 static void check_least_counts(const struct request *given, const struct icecoppice_answer *a)
 {
-    uint16_t windows = a->windows_least, covered = a->covered_least;
-    if (code_with_maximums(*given, windows, a->covered_most) != ICECOPPICE_YES ||
+    uint16_t windows = a->windows_least, covered = a->covered_least, thrift = a->thrift;
+    if (code_with_maximums(*given, windows, thrift) != ICECOPPICE_YES ||
         code_with_maximums(*given, a->windows_most, covered) != ICECOPPICE_YES ||
         (windows > 0 && code_with_maximums(*given, windows - 1, a->covered_most) != ICECOPPICE_NO) ||
+        (thrift > 0 && code_with_maximums(*given, windows, thrift - 1) != ICECOPPICE_NO) ||
         (covered > 0 && code_with_maximums(*given, a->windows_most, covered - 1) != ICECOPPICE_NO))
         fail("a least count is not the least", given);
 }
@@ -226,7 +230,7 @@ static void check_all_over(void)
         for (size_t j = MARGIN; j < MARGIN + n; j++)
             r.lowest[j] = r.highest[j] = 1;
         struct icecoppice_answer a = compare_filter(&r);
-        if (a.code != ICECOPPICE_YES || a.windows_least != (n + len - 1) / len || a.covered_least != n)
+        if (a.code != ICECOPPICE_YES || a.windows_least != (n + len - 1) / len || a.covered_least != n || a.thrift != n)
             fail("64 slots over", &r);
         check_drawn_plan(&r, &a);
     }

@@ -71,7 +71,8 @@ extern "C" {
 
 /*
  * What the filter answers. All fields but the code are 0 where their comment does not apply. Each least number is over
- * all plans within both maximums, by itself: one plan need not have both.
+ * all plans within both maximums, by itself: one plan need not have both. The thrift is what the thriftiest of the
+ * plans with the fewest windows covers; no given minimum raises it.
  */
 struct icecoppice_answer {
     uint16_t code;          /* planned, no plan, or a refusal */
@@ -80,6 +81,7 @@ struct icecoppice_answer {
     uint16_t windows_most;  /* planned: the given maximum */
     uint16_t covered_least; /* planned: the least number of covered slots, or the given minimum if that is larger */
     uint16_t covered_most;  /* planned: the given maximum */
+    uint16_t thrift;        /* planned: the least number of covered slots among the plans with the fewest windows */
 };
 
 /* What the judge answers. Both counts are 0 unless the code is yes. */
@@ -146,7 +148,7 @@ struct icecoppice_stepped {
  *   h                the most bridges of a window
  *   windows_least..  the range of the number of windows
  *   covered_least..  the range of the number of covered slots
- * No plan is held to the two minimums: they only raise the least numbers that the filter answers.
+ * No plan is held to the two minimums: they only raise windows_least and covered_least of the filter's answer.
  */
 
 /*

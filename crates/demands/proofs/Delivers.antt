@@ -12,7 +12,7 @@ use lib.ListN.{length}
 use Rattle.judge.proofs.Allowed.{Allowed, allowed-iff, yes→allowed}
 use Rattle.rule.proofs.Ranges.{chosen-length}
 use Rattle.rule.specs.Ranges.{ChosenIn}
-use Rattle.rule.specs.Rule.{legal, windows, covered, LeastOver}
+use Rattle.rule.specs.Rule.{legal, windows, covered, LeastOver, Fewest, ThriftOver}
 use Rattle.rule.specs.declared.Shape.{Shape}
 use Rattle.settings.specs.declared.CountRange.{CountRange}
 use Rattle.settings.specs.declared.Settings.{Settings}
@@ -22,10 +22,11 @@ use Rattle.published.specs.Published.{Sequence, Obeys, sequencesOf}
 use Rattle.requests.proofs.ChosenIn.{paired-length}
 use Rattle.requests.proofs.Outcomes.{keeps→planned, keeps→no-plan, no-plan→says, plan→says-planned}
 use Rattle.requests.proofs.Formed.{formed-iff, chosen-slots}
-use Rattle.requests.specs.Promise.{Outcome, Raised, YesFor, Keeps}
+use Rattle.requests.specs.Promise.{Outcome, Says, Raised, YesFor, Keeps}
 use Rattle.requests.specs.Request.{Request, slots, paired, ranges, WellFormed, PlanOf, LeftAt}
+use Rattle.requests.specs.declared.PlanCounts.{PlanCounts}
 use Rattle.demands.specs.Demands.{Definition, Satisfied, Occurs, LeastNumber, TrueLeast, Delivers}
-use Rattle.demands.specs.Demands.{DeliversCovered}
+use Rattle.demands.specs.Demands.{DeliversCovered, TrueThrift}
 
 -- the least count over the marks that P holds of is the least number that Q holds of
 least-number : (P : List ℕ → Type 0) (Q : ℕ → Type 0) {count : List ℕ → ℕ} {v : ℕ} →
@@ -179,4 +180,33 @@ module _ (r : Request) (w : WellFormed r) where
           covered = λ n e.
               let short = keeps→planned r o kept n e .covered in
               true-least short (covered-number (short .least));
+        }
+
+  -- D is the rule with D's maximums as both maximums
+  module _ (D : (X : List ℤ) (yc zc : ℕ) (S : List Sequence) → Type 0)
+      (is : (X : List ℤ) (yc zc : ℕ) (S : List Sequence) → D X yc zc S ↔ Rule X yc zc S) where
+    -- with v windows, the fewest: the thrift is the least summed length
+    thrift-number : {v u : ℕ} → LeastOver (PlanOf r) windows v → ThriftOver (PlanOf r) u →
+        LeastNumber (Suffices r (λ X zc S. D X v zc S) (s .covered .most)) u
+    thrift-number {v} few =
+        let (ks, k, fewest) = few .met in
+        least-number (Fewest (PlanOf r)) _
+        (λ ms m.
+        let (X, c, legal) = m .holds .in-rule in
+        let few-ms : windows ms ≤ v = omega (arith, fewest, m .fewest ks k) in (
+          m .holds .covered-fit,
+          (X, c, sequencesOf 0 ms, is X v _ _ .1 (drawn-by _ _ X ms v _ legal few-ms (le-refl _))),
+        ))
+        (λ u (most, (X, c, S, d)).
+        let most-v : v ≤ s .windows .most = omega (arith, fewest, k .windows-fit) in
+        let (ms, p, _, few-ms, short) = plan-of X v u S c most-v most (is X v u S .0 d) in
+        (ms, record { holds = p; fewest = λ ks k. omega (arith, few-ms, few .least ks k) }, short))
+
+    pub delivers-thrift : (o : Outcome) → Keeps r o → (n : PlanCounts) → Says o n → TrueThrift r D (n .thrift)
+    delivers-thrift o kept n e =
+        let p = keeps→planned r o kept n e in
+        record {
+          windows = p .windows .value;
+          fewest = windows-number _ (λ X _ yc S. is X yc _ S) (p .windows .least);
+          least = thrift-number (p .windows .least) (p .thrift);
         }

@@ -34,7 +34,7 @@ use Rattle.published.proofs.Examples.{examples}
 use Rattle.published.proofs.Theorems.{theorems}
 use Rattle.published.specs.Published.{Sequence, size, sum, _⊆_, Obeys, Corners, sequencesOf}
 use Rattle.requests.proofs.Alike.{alike}
-use Rattle.requests.proofs.Cases.{all-kept}
+use Rattle.requests.proofs.Cases.{all-kept, thrift-rises}
 use Rattle.requests.proofs.Demand3.{demand3}
 use Rattle.requests.proofs.PlansAreJudged.{plan-iff-yes}
 use Rattle.requests.proofs.SolutionKeeps.{promise-kept}
@@ -47,7 +47,7 @@ use Rattle.watch.proofs.RunsToLimit.{runs-to-limit, run-refusals}
 use Rattle.watch.proofs.StartAnswers
 use Rattle.writer.proofs.WriterAnswers
 use Rattle.writer.proofs.WriterAnswers.{writer-refuses, stores-accepted}
-use Rattle.demands.proofs.Delivers.{delivers, delivers-covered}
+use Rattle.demands.proofs.Delivers.{delivers, delivers-covered, delivers-thrift}
 use Rattle.demands.proofs.RoundTrip.{reads-back, writes-back, shortest}
 use Rattle.demands.proofs.WatchIsLeast.{watch-least}
 use Rattle.demands.specs.Demands.{Demand1, Judges, Demand2, Established, Contracts, Demands}
@@ -202,6 +202,10 @@ established =
       starred = all-kept;
       case-l = case-l;
       counts-are-least = counts-are-least;
+      thrift =
+          λ r o f. delivers-thrift r (f .well) _
+          (λ X yc zc S. corners (r .settings) X yc zc S .weightedSpringy) o (f .kept);
+      thrift-rises = thrift-rises;
       published = theorems;
       examples = examples;
       watch = count-is-least;

@@ -34,7 +34,7 @@ use Rattle.chooser.specs.Choice.{Chosen, Chooses}
 use Rattle.published.specs.Published.{Sequence, size, sum, _⊆_, Focus, SpringyFocus, WeightedFocus}
 use Rattle.published.specs.Published.{WeightedSpringyFocus, sequencesOf, Theorems}
 use Rattle.published.specs.Examples.{Examples}
-use Rattle.requests.specs.Cases.{cases, Kept}
+use Rattle.requests.specs.Cases.{cases, Kept, ThriftRises}
 use Rattle.requests.specs.Demand3.{Demand3}
 use Rattle.requests.specs.Promise.{Outcome, Says, SaysPlanned, SaysNoPlan, Held, Unaltered, YesFor, Keeps, Alike}
 use Rattle.requests.specs.Request.{Request, slots, paired, ranges, at, filterRefusal, WellFormed, PlanOf}
@@ -200,6 +200,16 @@ pub record DeliversCovered (r : Request) (D : Definition) (o : Outcome) : Type 0
   pub some : Satisfied r D (r .settings .covered .most) → SaysPlanned o
   pub covered : (n : PlanCounts) → Says o n → TrueLeast r D (r .settings .covered) (n .covered)
 
+-- A thrift for r, measured by a definition D that takes both maximums, of windows and of summed length: the least
+-- summed length with the least number of windows.
+pub record TrueThrift (r : Request) (D : (X : List ℤ) (yc zc : ℕ) (S : List Sequence) → Type 0)
+    (thrift : ℕ) : Type 0 where
+  pub windows : ℕ
+  pub fewest : LeastNumber
+      (λ u. (u ≤ r .settings .windows .most) × Satisfied r (λ X yc S. D X yc (r .settings .covered .most) S) u) windows
+  pub least : LeastNumber
+      (λ u. (u ≤ r .settings .covered .most) × Satisfied r (λ X zc S. D X windows zc S) u) thrift
+
 -- what `filter` hands back for a request that it does not refuse
 pub record Filtered (r : Request) (o : Outcome) : Type 0 where
   pub well : WellFormed r
@@ -255,8 +265,13 @@ pub record Established : Type 0 where
   -- the starred cases of document 01, and case L
   pub starred : Kept cases
   pub case-l : CaseL
-  -- the computed least counts are the true ones for every number of slots; also what they are for unchecked settings
+  -- the computed least counts and thrift are the true ones for every number of slots; also what the least counts are
+  -- for unchecked settings
   pub counts-are-least : (s : Settings) (cs : List Class) → CountsAreLeast s cs
+  -- the thrift handed back, measured by WeightedSpringyFOCUS; that loosening may raise it
+  pub thrift : (r : Request) (o : Outcome) → Filtered r o → (n : PlanCounts) → Says o n → let s = r .settings in
+      TrueThrift r (λ X yc zc S. WeightedSpringyFocus X yc (s .shape .len) (s .shape .h) (s .k) zc S) (n .thrift)
+  pub thrift-rises : ThriftRises
   -- the published definitions, the rule on windows, and legal marks, for loads and for ranges; examples that the
   -- papers work out
   pub published : Theorems

@@ -16,12 +16,14 @@ pub const NO_PLAN: u16 = 1;
 
 const MOVED: u16 = 2;
 
-// A code or a refusal's number, the slot of refusal 31, and both minimums. Without a plan both minimums are 65,535.
+// A code or a refusal's number, the slot of refusal 31, both minimums and the thrift. Without a plan these three are
+// 65,535.
 pub struct Outcome {
     pub code: u16,
     pub slot: usize,
     pub windows: u16,
     pub covered: u16,
+    pub thrift: u16,
 }
 
 // The answer, and what the three slices hold after the call.
@@ -76,6 +78,7 @@ fn planned(settings: Settings, counts: PlanCounts) -> Outcome {
         slot: 0,
         windows: counts.windows.least,
         covered: counts.covered.least,
+        thrift: counts.thrift,
     }
 }
 
@@ -85,6 +88,7 @@ fn without_plan(code: u16, slot: usize) -> Outcome {
         slot,
         windows: 65535,
         covered: 65535,
+        thrift: 65535,
     }
 }
 

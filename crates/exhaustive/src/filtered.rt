@@ -30,7 +30,8 @@ pub fn compare(tally: Tally, n: u16, number: usize) -> Tally
     tally.with(found.planned, agrees(request, n as usize, given, found))
 }
 
-// Whether the filter gave what was found. A minimum is the least count found or the given one, whichever is larger.
+// Whether the filter gave what was found. A minimum is the least count found or the given one, whichever is larger; no
+// minimum raises the thrift.
 pub fn agrees(request: Request, n: usize, given: Given, found: Found) -> bool
     requires { ⌜ n ≤ 8 ⌝ }
 {
@@ -41,6 +42,7 @@ pub fn agrees(request: Request, n: usize, given: Given, found: Found) -> bool
     (outcome.code == PLANNED)
         & (outcome.windows == larger(request.settings.windows.least, found.windows))
         & (outcome.covered == larger(request.settings.covered.least, found.covered))
+        & (outcome.thrift == found.thrift)
         & is_narrowed(request, n, given, found.under, found.over)
         & has_plan(request, n, given)
 }

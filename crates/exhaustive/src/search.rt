@@ -5,12 +5,14 @@ use crate::numbers::smaller;
 use rule::Shape;
 use settings::Settings;
 
-// What the plans found so far have: the least counts, each by itself, which are 8 before the first plan; a bit for each
-// slot where loads at most k occur, and a bit for each slot where loads above k do.
+// What the plans found so far have: the least counts, each by itself, and the least covered count of those with the
+// fewest windows, all 8 before the first plan; a bit for each slot where loads at most k occur, and a bit for each slot
+// where loads above k do.
 pub struct Found {
     pub planned: bool,
     pub windows: u16,
     pub covered: u16,
+    pub thrift: u16,
     pub under: usize,
     pub over: usize,
 }
@@ -23,6 +25,7 @@ pub fn search(settings: Settings, n: usize, lowest: [i32; 8], highest: [i32; 8])
         planned: false,
         windows: 8,
         covered: 8,
+        thrift: 8,
         under: 0,
         over: 0,
     };
@@ -61,9 +64,21 @@ fn with(found: Found, n: usize, marks: [u8; 8]) -> Found
         planned: true,
         windows: smaller(found.windows, windows(n, marks)),
         covered: smaller(found.covered, covered(n, marks)),
+        thrift: thrift_with(found, windows(n, marks), covered(n, marks)),
         under: found.under | !over,
         over: found.over | over,
     }
+}
+
+// The thrift with one more plan, which has these counts.
+fn thrift_with(found: Found, windows: u16, covered: u16) -> u16 {
+    if windows > found.windows {
+        return found.thrift;
+    }
+    if windows < found.windows {
+        return covered;
+    }
+    smaller(found.thrift, covered)
 }
 
 // A bit for each slot whose mark goes with over loads.

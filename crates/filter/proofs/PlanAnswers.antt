@@ -42,30 +42,30 @@ module _ (r : Request) (well : WellFormed r) where
     pub no-plan-kept : s .covered .most < least .covered → Keeps r (unalteredOutcome r (gives no-plan))
     unfolding solution possible
     no-plan-kept e =
-        let none : possible s (classes r) ≡ false = rw (← by, ← counted .1) (lt-leb _ _ e) in
+        let none : possible s (classes r) ≡ false = rw (← by, ← counted .2) (lt-leb _ _ e) in
         rw (well, none) at (solution-keeps r [] (λ _ some. absurd (true≢false (sym some ∙ none))))
 
     module _ (e : least .covered ≤ s .covered .most) where
       pub some-plan : possible s cs ≡ true
       unfolding possible
-      some-plan = rw (← counted .1) (le-leb _ _ e)
+      some-plan = rw (← counted .2) (le-leb _ _ e)
 
       pub plan-kept : (ms : List ℕ) {w c : CountRange} {los his : List ℤ} →
           (legalBy allows (s .shape) cs ms ≡ true) × (windows ms ≤ s .windows .most) × (covered ms ≤ s .covered .most) →
           w ≡ raised (s .windows) (least .windows) → c ≡ raised (s .covered) (least .covered) →
           (los ≡ lowestLeft s cs (r .lowest)) × (his ≡ highestLeft s cs (r .highest)) →
           Keeps r (record {
-            answer = gives (planned (record { windows = w; covered = c }));
+            answer = gives (planned (record { windows = w; covered = c; thrift = least .thrift }));
             lowest = los;
             highest = his;
             marks = ms;
           })
       unfolding solution
       plan-kept ms (in-rule, fits-w, fits-c) w c (low, high) =
-          let (few, short) = counted in
+          let (few, thrifty, short) = counted in
           let good = formed-iff .0 well in
           let same = nonzero-same (s .shape) (good .pass .length .0) in
           let plan = fits→plan r good (record { in-rule = rw (← by, same) in-rule; few = fits-w; short = fits-c }) in
           let kept : Keeps r (plannedOutcome r ms) =
           rw (well, rw by at some-plan) at (solution-keeps r ms (λ _ _. plan)) in
-          rw (w, c, low, high, few, short, by) kept
+          rw (w, c, low, high, few, thrifty, short, by) kept

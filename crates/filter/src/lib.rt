@@ -29,8 +29,8 @@ pub enum Answer {
     Planned(PlanCounts),
 }
 
-// Gives the first refusal that applies, or "no plan", or both count ranges with their minimums raised. Only in
-// the last case does it write: the ranges lose the loads that occur in no plan, and the marks become a plan.
+// Gives the first refusal that applies, or "no plan", or both count ranges with their minimums raised and the thrift.
+// Only in the last case does it write: the ranges lose the loads that occur in no plan, and the marks become a plan.
 pub fn filter(
     settings: Settings,
     lowest: &mut [i32],
@@ -67,6 +67,7 @@ fn plan(settings: Settings, lowest: &mut [i32], highest: &mut [i32], marks: &mut
     Answer::Planned(PlanCounts {
         windows: raise(settings.windows, least.windows),
         covered: raise(settings.covered, least.covered),
+        thrift: least.thrift,
     })
 }
 

@@ -35,6 +35,7 @@ withoutCounts code slot =
       «windows_most» = 0;
       «covered_least» = 0;
       «covered_most» = 0;
+      thrift = 0;
     }
 
 -- the code is 0 for planned, 1 for no plan, else the refusal's number; 31 also has its slot
@@ -49,6 +50,7 @@ answerNumbers (gives (planned n)) =
       «windows_most» = n .windows .most;
       «covered_least» = n .covered .least;
       «covered_most» = n .covered .most;
+      thrift = n .thrift;
     }
 
 -- the code is 0 for yes, 1 for no, else the refusal's number

@@ -38,6 +38,7 @@ pub struct AnswerNumbers {
     pub windows_most: u16,
     pub covered_least: u16,
     pub covered_most: u16,
+    pub thrift: u16,
 }
 
 // What the judge answers, in numbers: the code is 0 for yes, 1 for no, else the refusal's number; the counts are 0
@@ -147,6 +148,7 @@ fn answer_numbers(answer: Answer) -> AnswerNumbers
             windows_most: counts.windows.most,
             covered_least: counts.covered.least,
             covered_most: counts.covered.most,
+            thrift: counts.thrift,
         },
     }
 }
@@ -161,6 +163,7 @@ fn without_counts(code: u16, slot: usize) -> AnswerNumbers
         windows_most: 0,
         covered_least: 0,
         covered_most: 0,
+        thrift: 0,
     }
 }
 

@@ -1,4 +1,4 @@
--- Rows, filled from the last slot back to the first, and the window counts that they rule out.
+-- Rows, filled from the last slot back to the first, the window counts that they rule out, and the thrift.
 use Prim.Native.Nat.{ℕ, zero, suc, _+_, _≤_, _<_, min}
 use native.Mathlib.Nat.{le-refl, eq-or-lt-of-le}
 use native.Mathlib.Numerals.{add-one}
@@ -6,9 +6,9 @@ use native.Mathlib.Omega.{arith}
 use mathlib.Core.Bool.{Bool, true, false, cond}
 use mathlib.Core.List.{List, []}
 use mathlib.Core.Logic.{_⊎_, inl, inr, ⊎-elim}
-use mathlib.Core.Path.{_≡_, refl, sym, subst, _∙_}
-use borrow.Author.Tests.{leb-true, leb-false}
-use lib.Dec.{leb}
+use mathlib.Core.Path.{_≡_, refl, sym, ap, subst, _∙_}
+use borrow.Author.Tests.{lt-ltb, le-ltb, leb-true, leb-false}
+use lib.Dec.{leb, ltb}
 use lib.ListN.{length, drop, getD, set, replicate, drop-of-length-le, length-map, length-set, length-replicate}
 use lib.ListN.{getD-replicate}
 use lib.Seq.{getD-set-same, getD-set-other}
@@ -17,11 +17,11 @@ use Rattle.settings.specs.declared.Settings.{Settings}
 use Rattle.settings.specs.Refusals.{limit, places}
 use Rattle.rule.proofs.ClassCodes.{can-be-uncovered, cannot-be-uncovered}
 use Rattle.requests.proofs.BestIsLeast.{best-antitone}
-use Rattle.requests.proofs.LeastCounts.{fewest-is}
+use Rattle.requests.proofs.LeastCounts.{fewest-is, fewest-le, fewest-longer}
 use Rattle.least.proofs.InsideLoop.{from-slot}
-use Rattle.requests.specs.Best.{usingOne, saturatingSuc, best}
+use Rattle.requests.specs.Best.{usingOne, saturatingSuc, best, fewest}
 use Rattle.rule.specs.ClassCodes.{decode, decodeAll}
-use Rattle.least.specs.Rows.{Row, RowAfter, leastFrom, insideFrom, firstBelow}
+use Rattle.least.specs.Rows.{Row, RowAfter, leastFrom, insideFrom, firstBelow, thriftBelow}
 use Rattle.requests.specs.Solution.{sentinel}
 
 module _ (s : Settings) (classes : List ℕ) where
@@ -140,12 +140,26 @@ module _ (s : Settings) (classes : List ℕ) where
       fewest-is sentinel (s .shape) cs c w 0 first (omega arith) (omega (arith, p .within))
       (λ u _ l. p .above-max u l) (λ l. p .enough (omega arith))
 
-  -- the row of what comes after a window where v windows are left, and the first window count found below v
-  pub record RowsSoFar (v : ℕ) (after : List ℕ) (first : ℕ) : Type 0 where
+  -- the thrift with one row more
+  pub thrift-step : (v : ℕ) {first thrift count : ℕ} → first ≡ firstBelow s cs v → thrift ≡ thriftBelow s cs v →
+      count ≡ covers v → cond (ltb first v) thrift count ≡ covers (firstBelow s cs v)
+  unfolding fewest
+  thrift-step zero f t n = rw (f, n) refl
+  thrift-step (suc u) f t n = rw (f, t, n) (by _ (fewest-longer sentinel (s .shape) cs c 0 u))
+    where
+      by : (v : ℕ) → (v ≡ firstBelow s cs u) ⊎ (v ≡ 0 + suc u) →
+          cond (ltb v (suc u)) (covers (firstBelow s cs u)) (covers (suc u)) ≡ covers v
+      by v (inl e) =
+          rw (lt-ltb v (suc u) (omega (arith, e, fewest-le sentinel (s .shape) cs c 0 u))) (ap covers (sym e))
+      by v (inr e) = rw (le-ltb v (suc u) (omega arith)) (ap covers (omega arith))
+
+  -- the row of what comes after a window where v windows are left, the first window count found below v, and the thrift
+  pub record RowsSoFar (v : ℕ) (after : List ℕ) (first thrift : ℕ) : Type 0 where
     pub row : RowAfter s cs v after
     pub first-so-far : FirstSoFar v first
+    pub thrift-so-far : thrift ≡ thriftBelow s cs v
 
-  pub rows-start : length classes ≤ limit → RowsSoFar 0 (replicate places sentinel) 0
+  pub rows-start : length classes ≤ limit → RowsSoFar 0 (replicate places sentinel) 0 sentinel
   rows-start e =
       record {
         row = record {
@@ -153,21 +167,25 @@ module _ (s : Settings) (classes : List ℕ) where
           counts = λ i l. getD-replicate places i sentinel 0 (omega arith);
         };
         first-so-far = first-start;
+        thrift-so-far = refl;
       }
 
-  pub rows-step : (v first more : ℕ) {after row : List ℕ} → RowsSoFar v after first →
+  pub rows-step : (v first more : ℕ) {thrift thrift′ : ℕ} {after row : List ℕ} → RowsSoFar v after first thrift →
       ((w : ℕ) → RowAfter s cs w after → Row s cs w row) → more ≡ cond (leb (getD row 0 0) c) 0 1 →
-      RowsSoFar (v + 1) row (first + more)
-  rows-step v first more r next is =
+      thrift′ ≡ cond (ltb first v) thrift (getD row 0 0) →
+      RowsSoFar (v + 1) row (first + more) thrift′
+  rows-step v first more r next is kept =
       let row = next v (r .row) in
+      let count = row .counts 0 (omega arith) in
       record {
         row = row→after row;
-        first-so-far = rw (is, row .counts 0 (omega arith)) (first-step v first (r .first-so-far));
+        first-so-far = rw (is, count) (first-step v first (r .first-so-far));
+        thrift-so-far =
+            rw add-one (kept ∙ thrift-step v (first-end v first (r .first-so-far)) (r .thrift-so-far) count);
       }
 
-  pub rows-end : {v w first : ℕ} {after : List ℕ} → v ≡ w → RowsSoFar v after first →
-      RowAfter s cs w after × (first ≡ firstBelow s cs w)
-  rows-end {first = first} {after} e r = (
-    subst (λ v. RowAfter s cs v after) e (r .row),
-    subst (λ v. first ≡ firstBelow s cs v) e (first-end _ first (r .first-so-far)),
-  )
+  pub rows-end : {v w first thrift : ℕ} {after : List ℕ} → v ≡ w → RowsSoFar v after first thrift →
+      RowAfter s cs w after × (first ≡ firstBelow s cs w) × (thrift ≡ thriftBelow s cs w)
+  rows-end {first = first} {thrift} {after} e r =
+      subst (λ v. RowAfter s cs v after × (first ≡ firstBelow s cs v) × (thrift ≡ thriftBelow s cs v)) e
+      (r .row, first-end _ first (r .first-so-far), r .thrift-so-far)

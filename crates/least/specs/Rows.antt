@@ -28,6 +28,11 @@ insideFrom s cs i w = bestInside sentinel (s .shape) (drop i cs) (s .shape .len 
 abbrev pub firstBelow : Settings → List Class → (w : ℕ) → ℕ
 firstBelow s cs w = fewest sentinel (s .shape) cs (s .covered .most) 0 w
 
+-- the least covered count with the first of the window counts below w with which the covered maximum is kept, or with
+-- the last of them; where w is 0 there is no plan
+abbrev pub thriftBelow : Settings → List Class → (w : ℕ) → ℕ
+thriftBelow s cs w = usingOne sentinel w λ v. best sentinel (s .shape) cs (firstBelow s cs v)
+
 -- A row of least counts: for each slot the least covered count of the slots from there on, with at
 -- most w windows. Past the last slot that is 0.
 pub record Row (s : Settings) (cs : List Class) (w : ℕ) (row : List ℕ) : Type 0 where

@@ -3,14 +3,14 @@
 // on. What these counts are is `best` (crates/requests/specs/Best.antt).
 ghost use mathlib.Core.Bool.{cond};
 ghost use mathlib.Core.Path.{_≡_};
-ghost use lib.Dec.{leb};
+ghost use lib.Dec.{leb, ltb};
 ghost use Prim.Native.Nat.{ℕ, _+_, _-_, _≤_, _<_, min};
 ghost use lib.ListN.{length, take};
 ghost use Rattle.settings.specs.Refusals.{limit, places};
 ghost use Rattle.requests.specs.Best.{usingOne};
 ghost use Rattle.rule.specs.ClassCodes.{decode, decodeAll};
 ghost use Rattle.least.specs.Counts.{Counted};
-ghost use Rattle.least.specs.Rows.{Row, RowAfter, leastFrom, insideFrom, firstBelow, extended};
+ghost use Rattle.least.specs.Rows.{Row, RowAfter, leastFrom, insideFrom, firstBelow, thriftBelow, extended};
 ghost use Rattle.requests.specs.Solution.{sentinel};
 use rule::OVER;
 use rule::UNDER;
@@ -34,17 +34,22 @@ pub struct UnderWay {
 // `after` has the least covered count of the slots from there on, with at most w - 1 windows, or NO_PLAN; at
 // every place past the last slot it has 0. Where w is 0 it has NO_PLAN at all places. `first` is the first
 // window count below w with which the covered maximum is kept, or w; a maximum of NO_PLAN is always kept.
+// `thrift` is the least covered count with that many windows, or with w - 1 where `first` is w; where w is 0 it
+// is NO_PLAN.
 pub struct Filled {
     pub after: [u16; PLACES],
     pub first: u16,
+    pub thrift: u16,
 }
 
-// Two least counts, each taken by itself (`CountsAreLeast` in crates/requests/specs/Solution.antt).
-// `covered` is the least covered count within the window maximum, or NO_PLAN where no plan covers
-// fewer slots than that. `windows` is the least window count within both maximums; where there is
-// no plan it is the window maximum, and where the covered maximum is NO_PLAN it is 0.
+// Least counts (`CountsAreLeast` in crates/requests/specs/Solution.antt). `covered` is the least
+// covered count within the window maximum, or NO_PLAN where no plan covers fewer slots than that.
+// `windows` is the least window count within both maximums; where there is no plan it is the window
+// maximum, and where the covered maximum is NO_PLAN it is 0. `thrift` is the least covered count
+// with at most `windows` windows, or NO_PLAN: of a plan, the least among those with the fewest.
 pub struct LeastCounts {
     pub windows: u16,
+    pub thrift: u16,
     pub covered: u16,
 }
 
@@ -169,34 +174,56 @@ fn above(count: u16, most: u16) -> u16
     0
 }
 
+// The covered count to hand up after the row for v windows, which has `count` at slot 0: where the
+// first window count with which the covered maximum is kept is below v, it has been found already.
+fn thrift_after(first: u16, v: u16, thrift: u16, count: u16) -> u16
+    ensures { λ r. ⌜ r ≡ cond (ltb first v) thrift count ⌝ }
+{
+    if first < v {
+        return thrift;
+    }
+    count
+}
+
 // The rows for fewer than w windows, of which only the last is kept.
 fn fill_rows(settings: Settings, classes: &[u8], w: u16) -> Filled
     requires { ⌜ length (now classes) ≤ limit ⌝ }
     ensures { λ r. ⌜ RowAfter settings (decodeAll (now (classes .entry))) w (r .after)
-        × (r .first ≡ firstBelow settings (decodeAll (now (classes .entry))) w) ⌝ }
+        × (r .first ≡ firstBelow settings (decodeAll (now (classes .entry))) w)
+        × (r .thrift ≡ thriftBelow settings (decodeAll (now (classes .entry))) w) ⌝ }
 {
     let mut after = [NO_PLAN; PLACES];
     let mut first = 0;
+    let mut thrift = NO_PLAN;
     let mut v = 0;
     while v < w {
         after = next_row(settings, classes, &after);
-        first += above(after[0], settings.covered.most);
+        let count = after[0];
+        thrift = thrift_after(first, v, thrift, count);
+        first += above(count, settings.covered.most);
         v += 1;
     }
-    Filled { after, first }
+    Filled {
+        after,
+        first,
+        thrift,
+    }
 }
 
-// Both least counts, read off the rows.
+// The least counts, read off the rows.
 fn counts_of_rows(settings: Settings, classes: &[u8]) -> LeastCounts
     requires { ⌜ length (now classes) ≤ limit ⌝ }
     ensures { λ r. ⌜ Counted settings (decodeAll (now (classes .entry))) r ⌝ }
 {
-    let last = fill_rows(settings, classes, settings.windows.most);
+    let most = settings.windows.most;
+    let last = fill_rows(settings, classes, most);
     let after = last.after;
     let row = next_row(settings, classes, &after);
+    let covered = row[0];
     LeastCounts {
         windows: last.first,
-        covered: row[0],
+        thrift: thrift_after(last.first, most, last.thrift, covered),
+        covered,
     }
 }
 
@@ -214,13 +241,14 @@ fn at_most_limit(n: usize) -> usize
 // checked: a len of 0 counts as 1.
 pub fn rows(settings: Settings, classes: &[u8], w: u16) -> Filled
     ensures { λ r. ⌜ RowAfter settings (decodeAll (take limit (now (classes .entry)))) w (r .after)
-        × (r .first ≡ firstBelow settings (decodeAll (take limit (now (classes .entry)))) w) ⌝ }
+        × (r .first ≡ firstBelow settings (decodeAll (take limit (now (classes .entry)))) w)
+        × (r .thrift ≡ thriftBelow settings (decodeAll (take limit (now (classes .entry)))) w) ⌝ }
 {
     let n = at_most_limit(classes.len());
     fill_rows(settings, &classes[..n], w)
 }
 
-// Both least counts of the first LIMIT slots, as `LeastCounts` says. The settings are not checked:
+// The least counts of the first LIMIT slots, as `LeastCounts` says. The settings are not checked:
 // a len of 0 counts as 1.
 pub fn least_counts(settings: Settings, classes: &[u8]) -> LeastCounts
     ensures { λ r. ⌜ Counted settings (decodeAll (take limit (now (classes .entry)))) r ⌝ }

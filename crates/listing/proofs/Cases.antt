@@ -4,8 +4,8 @@ use mathlib.Core.Path.{_≡_, refl}
 use lib.IntN.{pos, negsuc}
 use Rattle.listing.proofs.Decimals.{turns-enough}
 use Rattle.listing.specs.Cases.{Cases}
-use Rattle.listing.specs.Text.{ascii, digits, decimal, signed, line, countsLine, slotLine, slotLines}
-use Rattle.listing.specs.Text.{refusalLine, answerText, text}
+use Rattle.listing.specs.Text.{ascii, digits, decimal, signed, line, countsLine, thriftLine, slotLine}
+use Rattle.listing.specs.Text.{slotLines, refusalLine, answerText, text}
 
 -- `decimal` is not unfolded here: it would count down from numbers as large as these
 ends-of-the-loads : slotLine 63 (negsuc 2147483647) (pos 2147483647) 255 ≡ ascii "63 -2147483648 2147483647 255\n"
@@ -19,7 +19,7 @@ ends-of-the-loads =
     ) refl
 
 pub cases : Cases
-unfolding digits decimal signed line countsLine slotLine slotLines refusalLine answerText text
+unfolding digits decimal signed line countsLine thriftLine slotLine slotLines refusalLine answerText text
 cases =
     record {
       case-a = refl;

@@ -13,8 +13,8 @@ use Rattle.requests.specs.Promise.{no-plan, planned}
 use Rattle.requests.specs.declared.PlanCounts.{PlanCounts}
 use Rattle.settings.specs.Refusals.{limit}
 use Rattle.listing.proofs.Decimals.{digits-at-most}
-use Rattle.listing.specs.Text.{ascii, decimal, signed, line, countsLine, slotLine, slotLines, answerText}
-use Rattle.listing.specs.Text.{maxLineLength, maxLength}
+use Rattle.listing.specs.Text.{ascii, decimal, signed, line, countsLine, thriftLine, slotLine, slotLines}
+use Rattle.listing.specs.Text.{answerText, maxLineLength, maxLength}
 
 -- each field takes one byte more, which ends it
 abbrev fieldsLength : List (List ℕ) → ℕ
@@ -58,9 +58,12 @@ countsLine-short word range bound f g =
       digits-at-most (range .most) 4 (omega arith),
     )
 
+-- the line of a word and one number
+count-short : (word : List ℕ) (n : ℕ) → n < 65536 → length (line (word ∷ decimal n ∷ [])) ≤ length word + 7
+count-short word n bound = omega (arith, line-length word (decimal n ∷ []), digits-at-most n 4 (omega arith))
+
 pub refusalLine-short : (code : ℕ) → code < 65536 → length (line (ascii "refused" ∷ decimal code ∷ [])) ≤ maxLength
-refusalLine-short code bound =
-    omega (arith, line-length (ascii "refused") (decimal code ∷ []), digits-at-most code 4 (omega arith))
+refusalLine-short code bound = omega (arith, count-short (ascii "refused") code bound)
 
 pub crossedLine-short : (code i : ℕ) → code < 65536 → i < 2 ^ 64 →
     length (line (ascii "refused" ∷ decimal code ∷ ascii "slot" ∷ decimal i ∷ [])) ≤ maxLength
@@ -81,15 +84,18 @@ abbrev Fits16 : CountRange → Type 0
 Fits16 range = (range .least < 65536) × (range .most < 65536)
 
 pub planned-short : (n : PlanCounts) (los his : List ℤ) (ms : List ℕ) → Fits16 (n .windows) → Fits16 (n .covered) →
-    length (slotLines 0 los his ms) ≤ maxLineLength * limit →
+    n .thrift < 65536 → length (slotLines 0 los his ms) ≤ maxLineLength * limit →
     length (answerText (gives (planned n)) los his ms) ≤ maxLength
-unfolding answerText
-planned-short n los his ms (wl, wm) (cl, cm) bound =
+unfolding answerText thriftLine
+planned-short n los his ms (wl, wm) (cl, cm) t bound =
+    let thrift = thriftLine (n .thrift) in
     omega (
       arith,
       length-append (countsLine (ascii "windows") (n .windows))
-          (countsLine (ascii "covered") (n .covered) ++ slotLines 0 los his ms),
-      length-append (countsLine (ascii "covered") (n .covered)) (slotLines 0 los his ms),
+          (countsLine (ascii "covered") (n .covered) ++ (thrift ++ slotLines 0 los his ms)),
+      length-append (countsLine (ascii "covered") (n .covered)) (thrift ++ slotLines 0 los his ms),
+      length-append thrift (slotLines 0 los his ms),
       countsLine-short (ascii "windows") (n .windows) (omega arith) wl wm,
       countsLine-short (ascii "covered") (n .covered) (omega arith) cl cm,
+      count-short (ascii "thrift") (n .thrift) t,
     )

@@ -60,6 +60,10 @@ line (field ∷ next ∷ fields) = field ++ (ascii " " ++ line (next ∷ fields)
 unfoldable pub countsLine : (word : List ℕ) → CountRange → List ℕ
 countsLine word range = line (word ∷ decimal (range .least) ∷ decimal (range .most) ∷ [])
 
+-- the line of the thrift (document 02, T-02)
+unfoldable pub thriftLine : ℕ → List ℕ
+thriftLine thrift = line (ascii "thrift" ∷ decimal thrift ∷ [])
+
 -- the line of a slot: its number, lowest load, highest load and mark
 unfoldable pub slotLine : (i : ℕ) (lowest highest : ℤ) (mark : ℕ) → List ℕ
 slotLine i lo hi m = line (decimal i ∷ signed lo ∷ signed hi ∷ decimal m ∷ [])
@@ -80,12 +84,13 @@ refusalLine r =
     (line (ascii "refused" ∷ decimal (number r) ∷ ascii "slot" ∷ decimal (slot r) ∷ []))
     (line (ascii "refused" ∷ decimal (number r) ∷ []))
 
--- on "planned", the lines of both count ranges, then those of the slots
+-- on "planned", the lines of both count ranges and of the thrift, then those of the slots
 unfoldable pub answerText : Answer Result → (lowest highest : List ℤ) (marks : List ℕ) → List ℕ
 answerText (refuses r) los his ms = refusalLine r
 answerText (gives no-plan) los his ms = line (ascii "no plan" ∷ [])
 answerText (gives (planned n)) los his ms =
-    countsLine (ascii "windows") (n .windows) ++ (countsLine (ascii "covered") (n .covered) ++ slotLines 0 los his ms)
+    countsLine (ascii "windows") (n .windows)
+    ++ (countsLine (ascii "covered") (n .covered) ++ (thriftLine (n .thrift) ++ slotLines 0 los his ms))
 
 -- the whole text
 unfoldable pub text : Outcome → List ℕ
@@ -96,7 +101,7 @@ text o = answerText (o .answer) (o .lowest) (o .highest) (o .marks)
 abbrev pub maxLineLength : ℕ
 maxLineLength = 32
 
--- A bound on the length of an answer's text with at most `limit` slots: two lines of counts of 5 digits, and the
+-- A bound on the length of an answer's text with at most `limit` slots: three lines of counts of 5 digits, and the
 -- lines of the slots.
 abbrev pub maxLength : ℕ
-maxLength = 40 + maxLineLength * limit
+maxLength = 53 + maxLineLength * limit

@@ -5,7 +5,7 @@ ghost use mathlib.Core.Path.{_≡_};
 ghost use Prim.Native.Nat.{_*_, _≤_, min};
 ghost use lib.ListN.{length};
 ghost use Rattle.buffer.specs.Written.{Written};
-ghost use Rattle.listing.specs.Text.{countsLine, slotLine, slotLines};
+ghost use Rattle.listing.specs.Text.{countsLine, thriftLine, slotLine, slotLines};
 ghost use Rattle.listing.specs.Text.{refusalLine, answerText, maxLineLength, maxLength};
 ghost use Rattle.refusals.specs.Answer.{gives};
 ghost use Rattle.requests.specs.Promise.{no-plan, planned as Promise·planned};
@@ -28,6 +28,14 @@ fn counts_line(name: &[u8], range: CountRange, out: &mut [u8], place: usize) -> 
     let least = word(name, SPACE, out, place);
     let most = number(range.least as u64, SPACE, out, least);
     number(range.most as u64, LINE_FEED, out, most)
+}
+
+// The line of the thrift.
+fn thrift_line(thrift: u16, out: &mut [u8], place: usize) -> usize
+    ensures { λ r. ⌜ Written (thriftLine thrift) place (now (out .entry)) (now (out .exit)) r ⌝ }
+{
+    let count = word(b"thrift", SPACE, out, place);
+    number(thrift as u64, LINE_FEED, out, count)
 }
 
 // The line of a slot.
@@ -108,6 +116,7 @@ pub(crate) fn planned(
         (now (marks .entry))) ≤ maxLength) ⌝ }
 {
     let second = counts_line(b"windows", counts.windows, out, 0);
-    let slots = counts_line(b"covered", counts.covered, out, second);
+    let third = counts_line(b"covered", counts.covered, out, second);
+    let slots = thrift_line(counts.thrift, out, third);
     slot_lines(lowest, highest, marks, out, slots)
 }

@@ -20,7 +20,7 @@ use settings::Settings;
 const HELD_BYTES: usize = 4097;
 
 // The length of the buffer for the text. Every answer's text fits: `print` asks for at least `maxLength` bytes.
-const MAX_LENGTH: usize = 40 + 32 * LIMIT;
+const MAX_LENGTH: usize = 53 + 32 * LIMIT;
 
 // What was read of a file: the first `size` of `bytes`.
 pub struct Input {

@@ -53,7 +53,8 @@ module _ (r : Request) where
     same-counts =
         let windows = raised-unique _ _ (n .windows) (m .windows) (a .windows) (b .windows) in
         let covered = raised-unique _ _ (n .covered) (m .covered) (a .covered) (b .covered) in
-        λ i. record { windows = windows i; covered = covered i }
+        let thrift = least-unique (a .thrift) (b .thrift) in
+        λ i. record { windows = windows i; covered = covered i; thrift = thrift i }
 
     both-planned : Alike o p
     both-planned =

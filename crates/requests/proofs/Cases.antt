@@ -1,19 +1,22 @@
 -- Every case of specs/Cases.antt keeps the promise: `best` is computed for all of them at once.
-use Prim.Native.Nat.{ℕ}
+use Prim.Native.Nat.{ℕ, zero, suc}
+use native.Mathlib.Nat.{le-refl}
 use mathlib.Core.Bool.{Bool, true, not, _&&_, _||_}
 use mathlib.Core.List.{List, [], _∷_, map}
 use mathlib.Core.Path.{_≡_, refl, ap, subst}
 use borrow.Author.Tests.{leb-true}
 use lib.Dec.{leb}
 use lib.ListN.{getD, drop}
+use lib.Signed.{_≤ℤ_, ≤ℤ-refl}
 use Rattle.rule.proofs.Ranges.{legalFor-iff-classes}
 use Rattle.facts.proofs.Tests.{and-true→both}
 use Rattle.requests.proofs.SolutionKeeps.{solution-keeps}
 use Rattle.requests.proofs.Formed.{formed-iff}
 use Rattle.requests.specs.Best.{best, fewest}
-use Rattle.requests.specs.Cases.{Case, cases, Kept}
+use Rattle.requests.specs.Cases.{Case, cases, Kept, loads101, loads111, middleUnder, middleOpen, ThriftRises}
 use Rattle.requests.specs.Promise.{Outcome, Keeps}
-use Rattle.requests.specs.Request.{Request, ranges, requestRefusal, filterRefusal, crossed, WellFormed, PlanOf}
+use Rattle.requests.specs.Request.{Request, ranges, at, requestRefusal, filterRefusal, crossed, WellFormed}
+use Rattle.requests.specs.Request.{PlanOf}
 use Rattle.requests.specs.Solution.{classes, possible, loss, solution}
 use Rattle.rule.specs.Ranges.{classOf, allows}
 use Rattle.refusals.specs.Table.{row, first}
@@ -60,8 +63,38 @@ each (c ∷ cs) e =
       each cs (ap (drop 1) e),
     )
 
+-- the cases of the list, with the two of `ThriftRises` before them
+computed-kept : Kept (middleUnder ∷ middleOpen ∷ cases)
+unfolding middleUnder middleOpen cases solution filterRefusal requestRefusal crossed refusal lengthsRefusal shapeRefusal
+    settingsRefusal first row wrongSlots differs wrongLength wrongBridges wrongCounts possible loss fewest best classOf
+    allows over goesWith fitting legalBy agrees follows ordered rest drawn countIf every windows covered Rule·keeps
+computed-kept = each (middleUnder ∷ middleOpen ∷ cases) refl
+
 pub all-kept : Kept cases
-unfolding cases solution filterRefusal requestRefusal crossed refusal lengthsRefusal shapeRefusal settingsRefusal first
-    row wrongSlots differs wrongLength wrongBridges wrongCounts possible loss fewest best classOf allows over goesWith
-    fitting legalBy agrees follows ordered rest drawn countIf every windows covered Rule·keeps
-all-kept = each cases refl
+all-kept = computed-kept .1 .1
+
+-- with the middle slot open no highest load is lower
+no-lower : (i : ℕ) → at loads101 i ≤ℤ at loads111 i
+no-lower zero = record { le = tt }
+no-lower (suc zero) = record { le = tt }
+no-lower (suc (suc zero)) = record { le = tt }
+no-lower (suc (suc (suc i))) = record { le = tt }
+
+pub thrift-rises : ThriftRises
+unfolding middleUnder middleOpen
+thrift-rises =
+    let under = computed-kept .0 in
+    let opened = computed-kept .1 .0 in
+    record {
+      kept = (under, (opened, tt));
+      looser = record {
+        threshold = λ i. refl;
+        as-many = refl;
+        contains = λ i there. (≤ℤ-refl _, no-lower i);
+        shape = record { len = le-refl _; h = le-refl _ };
+        windows = record { most = le-refl _; least = le-refl _ };
+        covered = record { most = le-refl _; least = le-refl _ };
+      };
+      tight = under .1 .thrift;
+      loose = opened .1 .thrift;
+    }

@@ -1,4 +1,4 @@
--- The two least counts of slots given by their classes, and when a plan exists, as they follow from `best`.
+-- The least counts of slots given by their classes, thrift, and when a plan exists, as they follow from `best`.
 use Prim.Native.Nat.{ℕ, zero, suc, _+_, _≤_, _<_}
 use native.Mathlib.Nat.{le-antisymm, le-refl, eq-or-lt-of-le, lt-of-not-le}
 use native.Mathlib.Omega.{arith}
@@ -8,8 +8,9 @@ use mathlib.Core.Logic.{_⊎_, inl, inr, ⊎-elim}
 use mathlib.Core.Path.{_≡_, refl, sym, subst}
 use borrow.Author.Tests.{leb-true, leb-false}
 use lib.Dec.{leb}
+use Rattle.facts.proofs.Tests.{cond-cases, cond-at-most}
 use Rattle.rule.specs.Ranges.{Class}
-use Rattle.rule.specs.Rule.{windows, covered, LeastOver}
+use Rattle.rule.specs.Rule.{windows, covered, LeastOver, ThriftOver}
 use Rattle.rule.specs.declared.Shape.{Shape}
 use Rattle.requests.proofs.BestIsLeast.{best-le, best-le-covered, best-met}
 use Rattle.requests.specs.Best.{Fits, best, fewest}
@@ -62,6 +63,26 @@ module _ (T : ℕ) (shape : Shape) (cs : List Class) where
           absurd (omega (arith, above-max, subst (λ u. best T shape cs u ≤ c) (sym same) (g (omega arith))))
       by false e (inr l) later = later l (omega arith) (λ u a b. f u (omega arith) b) (λ a. g (omega arith))
 
+  pub fewest-le : (c w d : ℕ) → fewest T shape cs c w d ≤ w + d
+  unfolding fewest
+  fewest-le c w zero = omega arith
+  fewest-le c w (suc d) =
+      cond-at-most (leb (best T shape cs w) c) _ _ (omega arith) (omega (arith, fewest-le c (suc w) d))
+
+  -- with one count more at the end, `fewest` finds the same, unless it finds that one
+  pub fewest-longer : (c w d : ℕ) →
+      (fewest T shape cs c w (suc d) ≡ fewest T shape cs c w d) ⊎ (fewest T shape cs c w (suc d) ≡ w + suc d)
+  unfolding fewest
+  fewest-longer c w zero =
+      cond-cases (λ v. (v ≡ w) ⊎ (v ≡ w + 1)) (leb (best T shape cs w) c) (inl refl) (inr (omega arith))
+  fewest-longer c w (suc d) = by (leb (best T shape cs w) c) (fewest-longer c (suc w) d)
+    where
+      by : (b : Bool) {x y : ℕ} → (x ≡ y) ⊎ (x ≡ suc w + suc d) →
+          (cond b w x ≡ cond b w y) ⊎ (cond b w x ≡ w + suc (suc d))
+      by true e = inl refl
+      by false (inl e) = inl e
+      by false (inr e) = inr (omega arith)
+
   module _ (w c : ℕ) where
     pub exists→enough : {ms : List ℕ} → Fits shape cs w c ms → best T shape cs w ≤ c
     exists→enough f = omega (arith, best-le-covered T shape f, f .short)
@@ -97,7 +118,8 @@ module _ (T : ℕ) (shape : Shape) (cs : List Class) where
           record { in-rule = f .in-rule; few = le-refl _; short = f .short } in
           first .first (windows ms) (omega arith) (omega (arith, best-le-covered T shape g, f .short))
 
-      fewest-met : (ms : List ℕ) × Fits shape cs w c ms × (windows ms ≡ v)
+      -- some marks have the fewest windows, and of these the least covered count
+      fewest-met : (ms : List ℕ) × Fits shape cs w c ms × (windows ms ≡ v) × (covered ms ≡ best T shape cs v)
       fewest-met =
           let within : v ≤ w = first .first w (omega arith) enough in
           let (ms, g) = best-met T shape cs v (omega (arith, first .enough)) in
@@ -107,12 +129,26 @@ module _ (T : ℕ) (shape : Shape) (cs : List Class) where
             few = omega (arith, within, g .few);
             short = omega (arith, g .short, first .enough);
           } in
-          (ms, fits, le-antisymm (g .few) (few-windows fits))
+          (ms, fits, le-antisymm (g .few) (few-windows fits), le-antisymm (g .short) (best-le-covered T shape g))
 
       pub least-windows : LeastOver (Fits shape cs w c) windows v
-      least-windows = record { met = fewest-met; least = λ ms f. few-windows f }
+      least-windows = let (ms, f, few, _) = fewest-met in record { met = (ms, f, few); least = λ ms f. few-windows f }
 
--- what the two least counts are, for all settings and classes
+      pub thrift : ThriftOver (Fits shape cs w c) (best T shape cs v)
+      thrift =
+          let (ms, f, few, short) = fewest-met in
+          record {
+            met = (ms, record { holds = f; fewest = λ ks g. omega (arith, few, few-windows g) }, short);
+            least = λ ks g.
+                best-le-covered T shape
+                (record {
+                  in-rule = g .holds .in-rule;
+                  few = omega (arith, few, g .fewest ms f);
+                  short = g .holds .short;
+                });
+          }
+
+-- what these counts are, for all settings and classes
 module _ (s : Settings) (cs : List Class) where
   abbrev w : ℕ
   w = s .windows .most
@@ -142,6 +178,7 @@ module _ (s : Settings) (cs : List Class) where
             let (ms, f) = enough→exists sentinel (s .shape) cs u c below enough in
             no ms (record { in-rule = f .in-rule; few = omega (arith, f .few, less); short = f .short }))
             (λ less. absurd (omega arith)));
+        thrift = λ below ms f. thrift sentinel (s .shape) cs w c below (exists→enough sentinel (s .shape) cs w c f);
         at-sentinel = λ above.
             sym
             (fewest-is sentinel (s .shape) cs c w 0 0 (omega arith) (omega arith) (λ u _ less. absurd (omega arith))

@@ -9,13 +9,13 @@ use borrow.Author.Tests.{leb-true}
 use lib.ListN.{length}
 use Rattle.refusals.specs.Answer.{refuses}
 use Rattle.refusals.specs.declared.Refusal.{Refusal}
-use Rattle.rule.proofs.LeastOver.{least-congr}
+use Rattle.rule.proofs.LeastOver.{least-congr, thrift-congr}
 use Rattle.rule.specs.Ranges.{Class}
 use Rattle.rule.specs.Rule.{LeastOver}
 use Rattle.settings.specs.declared.Settings.{Settings}
 use Rattle.requests.proofs.ChosenIn.{from-slots}
 use Rattle.requests.proofs.PlansAreJudged.{yes-to}
-use Rattle.requests.proofs.LeastCounts.{least-windows, least-covered}
+use Rattle.requests.proofs.LeastCounts.{least-windows, least-covered, thrift}
 use Rattle.requests.proofs.LossIsExact.{mapIndexed-length, mapIndexed-at, stays, loss-exact}
 use Rattle.requests.proofs.Formed.{Formed, formed-iff, covered-below-sentinel, chosen-slots, possible→fits}
 use Rattle.requests.proofs.Formed.{fits→possible, plan→fits, fits→plan}
@@ -99,6 +99,8 @@ module _ (r : Request) (good : Formed r) where
           minimum = refl;
           maximum = refl;
         };
+        thrift =
+            thrift-congr to-plan to-fits (thrift sentinel (s .shape) cs _ _ (covered-below-sentinel r good) enough);
         lowest-length = mapIndexed-length _ (r .lowest);
         highest-length = wide;
         narrowed = narrowed;

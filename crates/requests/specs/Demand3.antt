@@ -30,7 +30,7 @@ pub record Looser (l t : Request) : Type 0 where
   pub covered : Wider (l .settings .covered) (t .settings .covered)
 
 -- Each plan of t is a plan of l, each load left to t is left to l at the same slot, and where t has a least count, l
--- has one that is no higher.
+-- has one that is no higher. The thrift may be higher (`ThriftRises` in Cases.antt).
 pub record Loosens (t l : Request) : Type 0 where
   pub plans : (ms : List ℕ) → PlanOf t ms → PlanOf l ms
   pub loads : (i : ℕ) (x : ℤ) → LeftAt t i x → LeftAt l i x

@@ -16,7 +16,7 @@ use Rattle.rule.specs.Rule.{windows, covered, LeastOver}
 use Rattle.settings.specs.declared.CountRange.{CountRange}
 use Rattle.settings.specs.declared.Settings.{Settings}
 use Rattle.requests.specs.Request.{Request, slots, paired, at, thresholdAt, filterRefusal, WellFormed, PlanOf}
-use Rattle.requests.specs.Request.{LeftAt}
+use Rattle.requests.specs.Request.{LeftAt, Thrift}
 use Rattle.requests.specs.declared.PlanCounts.{PlanCounts}
 
 -- the result for a request that is not refused
@@ -90,6 +90,8 @@ pub record YesFor (s : Settings) (ranges : List Range) (marks : List ℕ) : Type
 pub record Planned (r : Request) (n : PlanCounts) (o : Outcome) : Type 0 where
   pub windows : Raised r windows (r .settings .windows) (n .windows)
   pub covered : Raised r covered (r .settings .covered) (n .covered)
+  -- no given minimum takes part (document 02, T-02)
+  pub thrift : Thrift r (n .thrift)
   pub lowest-length : length (o .lowest) ≡ slots r
   pub highest-length : length (o .highest) ≡ slots r
   pub narrowed : (i : ℕ) → i < slots r → Narrowed r o i

@@ -13,7 +13,7 @@ use Rattle.refusals.specs.declared.Refusal.the-variants.{Crossed}
 use Rattle.rule.specs.Ranges.{range, ChosenIn, LegalFor}
 use Rattle.rule.specs.declared.Range.{Range}
 use Rattle.settings.specs.Refusals.{differs, refusal}
-use Rattle.rule.specs.Rule.{legal, windows, covered, LeastOver}
+use Rattle.rule.specs.Rule.{legal, windows, covered, LeastOver, ThriftOver}
 use Rattle.settings.specs.declared.Settings.{Settings}
 
 -- What the filter is given: the settings and what the three lent slices hold. What the marks hold plays no part.
@@ -103,6 +103,10 @@ LeastWindows r = LeastOver (PlanOf r) windows
 
 abbrev pub LeastCovered : Request → ℕ → Type 0
 LeastCovered r = LeastOver (PlanOf r) covered
+
+-- the thrift of a request: the least covered count over the plans than which no plan has fewer windows
+abbrev pub Thrift : Request → ℕ → Type 0
+Thrift r = ThriftOver (PlanOf r)
 
 -- a slot is open when its lowest load is at most the threshold and its highest is greater
 pub record Open (r : Request) (i : ℕ) : Type 0 where

@@ -12,7 +12,7 @@ use lib.ListN.{getD, set}
 use Rattle.rule.specs.Ranges.{Class, under-only, over-only, either, classOf, allows}
 use Rattle.refusals.specs.Answer.{Answer, refuses, gives}
 use Rattle.refusals.specs.declared.Refusal.{Refusal}
-use Rattle.rule.specs.Rule.{legalBy, nonzero, windows, covered, LeastOver}
+use Rattle.rule.specs.Rule.{legalBy, nonzero, windows, covered, LeastOver, ThriftOver}
 use Rattle.settings.specs.declared.CountRange.{CountRange}
 use Rattle.settings.specs.declared.Settings.{Settings}
 use Rattle.requests.specs.Best.{Fits, best, fewest}
@@ -40,6 +40,10 @@ leastCoveredCount s cs = best sentinel (s .shape) cs (s .windows .most)
 abbrev pub leastWindowCount : Settings → List Class → ℕ
 leastWindowCount s cs = fewest sentinel (s .shape) cs (s .covered .most) 0 (s .windows .most)
 
+-- the least covered count of such slots with at most that many windows
+abbrev pub thriftCount : Settings → List Class → ℕ
+thriftCount s cs = best sentinel (s .shape) cs (leastWindowCount s cs)
+
 -- The marks that are legal for slots of these classes. A len of 0 counts as 1.
 abbrev pub LegalMarks : Settings → List Class → List ℕ → Type 0
 LegalMarks s cs ms = legalBy allows (nonzero (s .shape)) cs ms ≡ true
@@ -48,7 +52,7 @@ LegalMarks s cs ms = legalBy allows (nonzero (s .shape)) cs ms ≡ true
 abbrev pub FitsAt : Settings → List Class → List ℕ → Type 0
 FitsAt s cs = Fits (s .shape) cs (s .windows .most) (s .covered .most)
 
--- What the two least counts are, for all settings and classes (proofs/LeastCounts.antt).
+-- What these counts are, for all settings and classes (proofs/LeastCounts.antt).
 pub record CountsAreLeast (s : Settings) (cs : List Class) : Type 0 where
   -- no legal marks within the window maximum cover fewer slots than this count, and if it is below the sentinel, some
   -- cover just as many
@@ -60,6 +64,9 @@ pub record CountsAreLeast (s : Settings) (cs : List Class) : Type 0 where
       LeastOver (FitsAt s cs) windows (leastWindowCount s cs)
   pub none : s .covered .most < sentinel → ((ms : List ℕ) → FitsAt s cs ms → ⊥) →
       leastWindowCount s cs ≡ s .windows .most
+  -- with such a covered maximum and a plan: the least covered count among the plans with the fewest windows
+  pub thrift : s .covered .most < sentinel → (ms : List ℕ) → FitsAt s cs ms →
+      ThriftOver (FitsAt s cs) (thriftCount s cs)
   -- with any other covered maximum "no plan" counts as a plan, so that no window is needed
   pub at-sentinel : sentinel ≤ s .covered .most → leastWindowCount s cs ≡ 0
 
@@ -101,6 +108,7 @@ plannedOutcome r ms =
       answer = gives (planned (record {
         windows = raised (s .windows) (leastWindowCount s cs);
         covered = raised (s .covered) (leastCoveredCount s cs);
+        thrift = thriftCount s cs;
       }));
       lowest = lowestLeft s cs (r .lowest);
       highest = highestLeft s cs (r .highest);

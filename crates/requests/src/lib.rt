@@ -1,8 +1,10 @@
-// Definitions (specs/), theorems (proofs/), and the type of the count ranges that are handed back: no operation.
+// Definitions (specs/), theorems (proofs/), and the type of the counts that are handed back: no operation.
 use settings::CountRange;
 
-// The count ranges of a request that has a plan, with their minimums raised.
+// The counts of a request that has a plan: both count ranges, with their minimums raised, and the thrift, which is the
+// least covered count among the plans with the fewest windows.
 pub struct PlanCounts {
     pub windows: CountRange,
     pub covered: CountRange,
+    pub thrift: u16,
 }

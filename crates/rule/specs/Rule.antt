@@ -103,3 +103,12 @@ covered marks = countIf (λ m. not (eqb m 0)) marks
 pub record LeastOver (P : List ℕ → Type 0) (count : List ℕ → ℕ) (v : ℕ) : Type 0 where
   pub met : (ms : List ℕ) × P ms × (count ms ≡ v)
   pub least : (ms : List ℕ) → P ms → v ≤ count ms
+
+-- P holds of the marks, and of none with fewer windows
+pub record Fewest (P : List ℕ → Type 0) (ms : List ℕ) : Type 0 where
+  pub holds : P ms
+  pub fewest : (ks : List ℕ) → P ks → windows ms ≤ windows ks
+
+-- v is the thrift, in document 02's term (T-02): the least covered count over such marks
+abbrev pub ThriftOver : (P : List ℕ → Type 0) (v : ℕ) → Type 0
+ThriftOver P v = LeastOver (Fewest P) covered v

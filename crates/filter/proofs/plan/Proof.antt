@@ -43,7 +43,7 @@ slice-aggregate-least-counts c = sym (whole _ (well (c .before)) _ (c .before .c
 least-counts-requires : tie.Need-least-counts-requires
 least-counts-requires c κs = search needs
 
--- both least counts: `least_counts` reads every slot of the request
+-- the least counts: `least_counts` reads every slot of the request
 counts : (c : tie.After-least-counts) →
     let point = c .before .before in
     Counted (request point .settings) (decodeAll (take (slots (request point)) (point .classify .result)))

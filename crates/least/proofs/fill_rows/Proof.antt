@@ -1,5 +1,6 @@
 -- `least::fill_rows` meets its contract. The loop's invariant: the row is that of what comes after a window
--- where v windows are left, and the window counts below v have been compared with the covered maximum (`RowsSoFar`).
+-- where v windows are left, and the window counts below v have been compared with the covered maximum, with the thrift
+-- so far (`RowsSoFar`).
 use Prim.Native.Nat.{_-_, _≤_}
 use native.Mathlib.Omega.{arith}
 use borrow.Author.Needs.{needs}
@@ -8,11 +9,11 @@ use Rattle.least.proofs.fill_rows.Statement.{statement}
 use Rattle.least.proofs.fill_rows.Tie as tie
 
 abbrev Inv-loop : tie.InvT-loop
-Inv-loop settings classes w after₀ first₀ v₀ after first v =
-    (v ≤ w) × RowsSoFar settings classes v after first
+Inv-loop settings classes w after₀ first₀ thrift₀ v₀ after first thrift v =
+    (v ≤ w) × RowsSoFar settings classes v after first thrift
 
 abbrev μ-loop : tie.MeasureT-loop
-μ-loop settings classes w after₀ first₀ v₀ after first v = w - v
+μ-loop settings classes w after₀ first₀ thrift₀ v₀ after first thrift v = w - v
 
 loop-holds : tie.Need-loop-holds Inv-loop μ-loop
 loop-holds c = (omega arith, rows-start _ (c .before .args .classes .now) (omega arith))
@@ -20,10 +21,13 @@ loop-holds c = (omega arith, rows-start _ (c .before .args .classes .now) (omega
 next-row-requires : tie.Need-next-row-requires Inv-loop μ-loop
 next-row-requires c κs = search needs
 
-array-read-above : tie.Need-array-read-above Inv-loop μ-loop
-array-read-above c =
+array-read-count : tie.Need-array-read-count Inv-loop μ-loop
+array-read-count c =
     let row = c .next-row .ensures _ (c .before .before .before .loop .inv .1 .row) in
     omega (arith, row .wide)
+
+thrift-after-requires : tie.Need-thrift-after-requires Inv-loop μ-loop
+thrift-after-requires c κs = search needs
 
 above-requires : tie.Need-above-requires Inv-loop μ-loop
 above-requires c κs = search needs
@@ -39,8 +43,11 @@ loop-less c = search needs
 
 loop-again : tie.Need-loop-again Inv-loop μ-loop
 loop-again c =
-    let loop = c .before .before .before .before .loop in
-    (omega arith, rows-step _ _ _ _ _ (loop .inv .1) (c .before .next-row .ensures) (c .above .ensures .0))
+    let loop = c .before .before .before .before .before .loop in (
+      omega arith,
+      rows-step _ _ _ _ _ (loop .inv .1) (c .before .before .next-row .ensures) (c .above .ensures .0)
+          (c .before .thrift-after .ensures),
+    )
 
 returns : tie.Need-returns Inv-loop μ-loop
 returns c = rows-end _ _ (omega arith) (c .before .loop .inv .1)
@@ -53,7 +60,8 @@ fill-rows-spec =
     μ-loop
     loop-holds
     next-row-requires
-    array-read-above
+    array-read-count
+    thrift-after-requires
     above-requires
     add-first
     add-v

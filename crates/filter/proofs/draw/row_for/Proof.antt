@@ -9,7 +9,7 @@ use Rattle.filter.proofs.draw.row_for.Tie as tie
 returns-2 : tie.Need-returns-2
 returns-2 c =
     let classes = c .before .before .before .before .before .before .args .classes .now in
-    let (after, first) = rw (take-all limit classes (omega arith)) at (c .before .rows .ensures) in
+    let (after, _, _) = rw (take-all limit classes (omega arith)) at (c .before .rows .ensures) in
     (after .wide, (λ opened. after), (λ n. absurd (n (omega arith))))
 
 pub row-for-spec : {M : Type 1} → statement M

@@ -26,7 +26,7 @@ returns c =
     let short = settled-length (args .codes) (args .n) (args .i) (args .class) (omega arith) in
     let lent = take (args .n) (set (args .codes) (args .i) (args .class)) in
     rw (
-      c .before .before .least-counts .ensures .1,
+      c .before .before .least-counts .ensures .2,
       take-all limit lent (omega (arith, short)),
       settled (args .codes) (args .n) (args .i) (args .class) (omega arith),
     )
