@@ -1,12 +1,11 @@
 -- Bytes written one after another are one list of bytes.
 use Prim.Native.Nat.{ℕ, _+_, _≤_, _<_, min}
-use native.Mathlib.Nat.{zero-add}
 use native.Mathlib.Omega.{arith}
 use mathlib.Core.List.{List, [], _∷_, _++_, flatten, append-nil}
 use mathlib.Core.Path.{_≡_, refl, sym, ap, _∙_}
 use lib.ListN.{length, getD, drop, set, length-append, drop-of-length-le}
-use lib.Seq.{set-out, sets, sets-eq, length-sets}
-use Rattle.facts.proofs.Lists.{uncons, sets-clipped, sets-append}
+use lib.Seq.{set-out, sets, length-sets}
+use Rattle.facts.proofs.Lists.{uncons, sets-front, sets-clipped, sets-append}
 use Rattle.buffer.specs.Written.{Written}
 
 -- a byte, where it fits and where it does not
@@ -26,8 +25,7 @@ written-length {s} {before} {after} {p} w = ap length (w .stored) ∙ length-set
 -- a text that fits is at the front, and the rest of the buffer is as it was
 pub written-whole : {s before after : List ℕ} {q : ℕ} → Written s 0 before after q → length s ≤ length before →
     (q ≡ length s) × (after ≡ s ++ drop (length s) before)
-written-whole {s} {before} w fits =
-    (omega (arith, w .ends), w .stored ∙ rw zero-add at (sets-eq s before 0 (omega arith)))
+written-whole {s} {before} w fits = (omega (arith, w .ends), w .stored ∙ sets-front s before fits)
 
 module _ {s t : List ℕ} {p q r : ℕ} {before between after : List ℕ} where
   pub written-append : Written s p before between q → Written t q between after r → Written (s ++ t) p before after r

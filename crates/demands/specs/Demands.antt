@@ -39,7 +39,7 @@ use Rattle.requests.specs.Demand3.{Demand3}
 use Rattle.requests.specs.Promise.{Outcome, Says, SaysPlanned, SaysNoPlan, Held, Unaltered, YesFor, Keeps, Alike}
 use Rattle.requests.specs.Request.{Request, slots, paired, ranges, at, filterRefusal, WellFormed, PlanOf}
 use Rattle.requests.specs.declared.PlanCounts.{PlanCounts}
-use Rattle.requests.specs.Solution.{CountsAreLeast}
+use Rattle.requests.specs.Solution.{sentinel, drawnPlan, FitsAt, CountsAreLeast}
 use Rattle.watch.specs.Promise.{meaning, Steps, Runs, RunsFromReached, CountIsLeast, CaseL}
 use Rattle.watch.specs.Start.{starting}
 use Rattle.watch.specs.States.{startRefusal, LeadsTo, Reached}
@@ -92,6 +92,8 @@ use Rattle.checks.proofs.check_request as CheckRequest
 use Rattle.rule.proofs.class_of as ClassOf
 use Rattle.least.proofs.least_counts as LeastCountsOf
 use Rattle.least.proofs.rows as Rows
+use Rattle.drawing.proofs.classify as Classify
+use Rattle.drawing.proofs.draw as Draw
 use Rattle.form1.proofs.open as Open
 use Rattle.form1.proofs.range_at as RangeAt
 use Rattle.form1.proofs.put_range as PutRange
@@ -268,6 +270,9 @@ pub record Established : Type 0 where
   -- the computed least counts and thrift are the true ones for every number of slots; also what the least counts are
   -- for unchecked settings
   pub counts-are-least : (s : Settings) (cs : List Class) → CountsAreLeast s cs
+  -- what is drawn is a plan, if there is one, also for unchecked settings
+  pub drawn : (s : Settings) (cs : List Class) → s .covered .most < sentinel → (ms : List ℕ) → FitsAt s cs ms →
+      FitsAt s cs (drawnPlan s cs)
   -- the thrift handed back, measured by WeightedSpringyFOCUS; that loosening may raise it
   pub thrift : (r : Request) (o : Outcome) → Filtered r o → (n : PlanCounts) → Says o n → let s = r .settings in
       TrueThrift r (λ X yc zc S. WeightedSpringyFocus X yc (s .shape .len) (s .shape .h) (s .k) zc S) (n .thrift)
@@ -321,8 +326,9 @@ pub record Contracts : Type 2 where
   pub write-for-c : Operation CWrite.Statement.statement CWrite.signature (λ M 𝓤. CWrite.spec 𝓤)
   pub start-for-c : Operation CStart.Statement.statement CStart.signature (λ M 𝓤. CStart.spec 𝓤)
   pub step-for-c : Operation CStep.Statement.statement CStep.signature (λ M 𝓤. CStep.spec 𝓤)
-  -- what these share: a byte put into a buffer, the test of a load, checks, a slot's class and least counts, a file's
-  -- trailer and records, read and put, and the number and slot of a refusal
+  -- what these share: a byte put into a buffer, the test of a load, checks, a slot's class and least counts, the
+  -- classes of all slots and what is drawn for them, a file's trailer and records, read and put, and the number and
+  -- slot of a refusal
   pub put-byte : Operation PutByte.Statement.statement PutByte.signature (λ M 𝓤. PutByte.spec 𝓤)
   pub over : Operation Over.Statement.statement Over.signature (λ M 𝓤. Over.spec 𝓤)
   pub check : Operation Check.Statement.statement Check.signature (λ M 𝓤. Check.spec 𝓤)
@@ -334,6 +340,8 @@ pub record Contracts : Type 2 where
   pub class-of : Operation ClassOf.Statement.statement ClassOf.signature (λ M 𝓤. ClassOf.spec 𝓤)
   pub least-counts : Operation LeastCountsOf.Statement.statement LeastCountsOf.signature (λ M 𝓤. LeastCountsOf.spec 𝓤)
   pub rows : Operation Rows.Statement.statement Rows.signature (λ M 𝓤. Rows.spec 𝓤)
+  pub classify : Operation Classify.Statement.statement Classify.signature (λ M 𝓤. Classify.spec 𝓤)
+  pub draw : Operation Draw.Statement.statement Draw.signature (λ M 𝓤. Draw.spec 𝓤)
   pub «open» : Operation Open.Statement.statement Open.signature (λ M 𝓤. Open.spec 𝓤)
   pub range-at : Operation RangeAt.Statement.statement RangeAt.signature (λ M 𝓤. RangeAt.spec 𝓤)
   pub put-range : Operation PutRange.Statement.statement PutRange.signature (λ M 𝓤. PutRange.spec 𝓤)

@@ -1,16 +1,16 @@
 -- Facts about lists that the library lacks: one element taken off, mapped or written, and one list stored in another.
 use Prim.Native.Nat.{ℕ, zero, suc, _+_, _≤_, _<_, min}
-use native.Mathlib.Nat.{add-zero, eq-or-lt-of-le}
+use native.Mathlib.Nat.{zero-add, add-zero, eq-or-lt-of-le}
 use native.Mathlib.Numerals.{add-one}
 use native.Mathlib.Omega.{arith}
 use mathlib.Core.Bool.{Bool, true, false}
-use mathlib.Core.List.{List, [], _∷_, _++_, map}
+use mathlib.Core.List.{List, [], _∷_, _++_, map, append-nil}
 use mathlib.Core.Logic.{⊎-elim}
 use mathlib.Core.Path.{_≡_, refl, sym, ap, _∙_, subst}
 use borrow.Author.Tests.{leb-true, leb-false}
 use lib.Dec.{leb}
-use lib.ListN.{length, drop, getD, set}
-use lib.Seq.{drop-cons, getD-set-same, getD-set-other, set-out, sets}
+use lib.ListN.{length, drop, getD, set, drop-of-length-le}
+use lib.Seq.{drop-cons, getD-set-same, getD-set-other, set-out, sets, sets-eq}
 
 pub uncons : {A : Type 0} (l : List A) (i : ℕ) (d : A) → i < length l → drop i l ≡ getD l i d ∷ drop (i + 1) l
 uncons l i d bound = rw add-one (drop-cons l i d bound)
@@ -30,10 +30,24 @@ written-before P l i v d e before here j b =
     (λ b. subst (P j) (sym (getD-set-other l i j v d (omega (arith, b)))) (before j b))
     (eq-or-lt-of-le most)
 
+-- what fits is at the front, and the rest of the list is as it was
+pub sets-front : (t l : List ℕ) → length t ≤ length l → sets l 0 t ≡ t ++ drop (length t) l
+sets-front t l fits = rw zero-add at (sets-eq t l 0 (omega arith))
+
+pub sets-all : (t l : List ℕ) → length t ≡ length l → sets l 0 t ≡ t
+sets-all t l same =
+    let none : drop (length t) l ≡ [] = drop-of-length-le l {i = length t} (omega arith) in
+    sets-front t l (omega arith) ∙ rw none (append-nil t)
+
 -- nothing is stored past the end
 pub sets-past-end : (t l : List ℕ) (i : ℕ) → length l ≤ i → sets l i t ≡ l
 sets-past-end [] l i bound = refl
 sets-past-end (a ∷ t) l i bound = rw (set-out l i a bound) (sets-past-end t l (suc i) (omega arith))
+
+-- nothing is stored where none is left, or no place
+pub sets-full : (t l : List ℕ) (i : ℕ) → min (length l) (i + length t) ≤ i → sets l i t ≡ l
+sets-full [] l i full = refl
+sets-full (a ∷ t) l i full = sets-past-end (a ∷ t) l i (omega arith)
 
 pub sets-clipped : (t l : List ℕ) (i : ℕ) → sets l (min i (length l)) t ≡ sets l i t
 sets-clipped t l i = by (leb i (length l)) refl

@@ -1,4 +1,2 @@
 mod PlanAnswers
-mod ClassifyLoop
 mod NarrowLoop
-mod DrawLoop

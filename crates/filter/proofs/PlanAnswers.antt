@@ -3,24 +3,28 @@ use Prim.Native.Nat.{ℕ, _≤_, _<_}
 use native.Mathlib.Omega.{arith}
 use mathlib.Core.Bool.{true, false, true≢false}
 use mathlib.Core.List.{List, []}
-use mathlib.Core.Path.{_≡_, sym, _∙_}
+use mathlib.Core.Path.{_≡_, sym, ap, _∙_}
 use borrow.Author.Tests.{le-leb, lt-leb}
 use lib.IntN.{ℤ}
 use lib.ListN.{length, take}
-use lib.Seq.{length-take-le}
+use lib.Seq.{length-take-le, sets}
+use Rattle.drawing.proofs.Codes.{codes-wide, codes-decoded}
+use Rattle.drawing.specs.Codes.{codesOf}
+use Rattle.facts.proofs.Lists.{sets-all}
 use Rattle.refusals.specs.Answer.{gives}
-use Rattle.rule.proofs.Plan.{nonzero-same}
-use Rattle.rule.specs.Ranges.{Class, allows}
+use Rattle.rule.specs.ClassCodes.{decodeAll}
+use Rattle.rule.specs.Ranges.{Class}
 use Rattle.settings.specs.Refusals.{limit}
-use Rattle.rule.specs.Rule.{legalBy, windows, covered}
 use Rattle.settings.specs.declared.CountRange.{CountRange}
 use Rattle.settings.specs.declared.Settings.{Settings}
 use Rattle.requests.proofs.SolutionKeeps.{solution-keeps}
-use Rattle.requests.proofs.Formed.{formed-iff, fits→plan}
+use Rattle.requests.proofs.DrawnPlan.{drawnFrom-length, drawnPlan-fits}
+use Rattle.requests.proofs.Formed.{formed-iff, class-slots, covered-below-sentinel, possible→fits}
+use Rattle.requests.proofs.Formed.{fits→plan}
 use Rattle.requests.specs.Promise.{no-plan, planned, Keeps}
 use Rattle.requests.specs.Request.{Request, slots, WellFormed}
-use Rattle.requests.specs.Solution.{classes, possible, lowestLeft, highestLeft, raised, plannedOutcome}
-use Rattle.requests.specs.Solution.{unalteredOutcome, solution}
+use Rattle.requests.specs.Solution.{sentinel, classes, drawnPlan, possible, lowestLeft, highestLeft, raised}
+use Rattle.requests.specs.Solution.{plannedOutcome, unalteredOutcome, solution}
 use Rattle.least.specs.Counts.{Counted}
 use Rattle.least.specs.declared.LeastCounts.{LeastCounts}
 
@@ -31,12 +35,28 @@ module _ (r : Request) (well : WellFormed r) where
   short : slots r ≤ limit
   short = formed-iff .0 well .pass .slots .1
 
-  module _ (codes : List ℕ) (wide : length codes ≡ limit) where
+  -- the bytes that `classify` gave, of which `draw` and `narrow` are lent as many as there are slots
+  module _ (codes : List ℕ) (is : codes ≡ codesOf (classes r)) where
+    pub wide : length codes ≡ limit
+    wide = ap length is ∙ codes-wide (classes r)
+
     pub whole : length (take (slots r) codes) ≡ slots r
-    whole = length-take-le (slots r) codes (omega (arith, short))
+    whole = length-take-le (slots r) codes (omega (arith, short, wide))
 
     pub whole-short : length (take (slots r) codes) ≤ limit
     whole-short = omega (arith, whole, short)
+
+    pub by-codes : decodeAll (take (slots r) codes) ≡ classes r
+    by-codes =
+        let n = class-slots r (formed-iff .0 well) in
+        rw (is, ← n) (codes-decoded (classes r) (omega (arith, n, short)))
+
+  -- there are as many marks as slots, so that what is drawn is all that they hold
+  all-drawn : sets (r .marks) 0 (drawnPlan s (classes r)) ≡ drawnPlan s (classes r)
+  all-drawn =
+      let good = formed-iff .0 well in
+      let drawn = drawnFrom-length sentinel (s .shape) (classes r) 0 (s .windows .most) (s .covered .most) in
+      sets-all (drawnPlan s (classes r)) (r .marks) (drawn ∙ class-slots r good ∙ sym (good .marked))
 
   module _ (cs : List Class) (by : cs ≡ classes r) (least : LeastCounts) (counted : Counted s cs least) where
     pub no-plan-kept : s .covered .most < least .covered → Keeps r (unalteredOutcome r (gives no-plan))
@@ -46,12 +66,11 @@ module _ (r : Request) (well : WellFormed r) where
         rw (well, none) at (solution-keeps r [] (λ _ some. absurd (true≢false (sym some ∙ none))))
 
     module _ (e : least .covered ≤ s .covered .most) where
-      pub some-plan : possible s cs ≡ true
+      some-plan : possible s cs ≡ true
       unfolding possible
       some-plan = rw (← counted .2) (le-leb _ _ e)
 
-      pub plan-kept : (ms : List ℕ) {w c : CountRange} {los his : List ℤ} →
-          (legalBy allows (s .shape) cs ms ≡ true) × (windows ms ≤ s .windows .most) × (covered ms ≤ s .covered .most) →
+      pub plan-kept : {ms : List ℕ} {w c : CountRange} {los his : List ℤ} → ms ≡ sets (r .marks) 0 (drawnPlan s cs) →
           w ≡ raised (s .windows) (least .windows) → c ≡ raised (s .covered) (least .covered) →
           (los ≡ lowestLeft s cs (r .lowest)) × (his ≡ highestLeft s cs (r .highest)) →
           Keeps r (record {
@@ -61,11 +80,12 @@ module _ (r : Request) (well : WellFormed r) where
             marks = ms;
           })
       unfolding solution
-      plan-kept ms (in-rule, fits-w, fits-c) w c (low, high) =
+      plan-kept ms w c (low, high) =
           let (few, thrifty, short) = counted in
           let good = formed-iff .0 well in
-          let same = nonzero-same (s .shape) (good .pass .length .0) in
-          let plan = fits→plan r good (record { in-rule = rw (← by, same) in-rule; few = fits-w; short = fits-c }) in
-          let kept : Keeps r (plannedOutcome r ms) =
-          rw (well, rw by at some-plan) at (solution-keeps r ms (λ _ _. plan)) in
-          rw (w, c, low, high, few, thrifty, short, by) kept
+          let possible = rw by at some-plan in
+          let (some, f) = possible→fits r good (classes r) possible in
+          let plan = fits→plan r good (drawnPlan-fits s (classes r) (covered-below-sentinel r good) some f) in
+          let kept : Keeps r (plannedOutcome r (drawnPlan s (classes r))) =
+          rw (well, possible) at (solution-keeps r (drawnPlan s (classes r)) (λ _ _. plan)) in
+          rw (ms, w, c, low, high, few, thrifty, short, by, all-drawn) kept

@@ -1,3 +1,2 @@
 pub mod AnswerMeaning
-pub mod DrawState
 pub mod PartMeaning

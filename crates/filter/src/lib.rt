@@ -6,10 +6,10 @@ ghost use Rattle.filter.specs.AnswerMeaning.{outcomeOf};
 ghost use Rattle.requests.specs.Promise.{Keeps};
 ghost use Rattle.requests.specs.Request.{requestOf, WellFormed};
 ghost use Rattle.requests.specs.Solution.{raised};
-use crate::classes::classify;
-use crate::draw::draw;
 use crate::narrow::narrow;
 use checks::check_request;
+use drawing::classify;
+use drawing::draw;
 use least::least_counts;
 use refusals::Checked;
 use refusals::Refusal;
@@ -18,8 +18,6 @@ use settings::CountRange;
 use settings::Settings;
 use settings::differ;
 
-mod classes;
-mod draw;
 mod narrow;
 
 // What the filter answers.

@@ -1,6 +1,6 @@
 -- Choices of loads in ranges: slot by slot, with one slot pinned to one load, and with one range replaced. The proofs
 -- are by recursion on the slots.
-use Prim.Native.Nat.{ℕ, zero, suc, _<_}
+use Prim.Native.Nat.{ℕ, zero, suc, _<_, min}
 use native.Mathlib.Omega.{arith}
 use mathlib.Core.List.{List, [], _∷_, map}
 use mathlib.Core.Path.{_≡_, refl, sym, ap, _∙_, subst}
@@ -13,10 +13,14 @@ use Rattle.rule.specs.Ranges.{range, Proper, ChosenIn, Class, classOf}
 use Rattle.rule.specs.declared.Range.{Range}
 use Rattle.requests.specs.Request.{paired, at}
 
+-- where the lists differ in length, the ranges end with the shorter
+pub paired-min : (los his : List ℤ) → length (paired los his) ≡ min (length los) (length his)
+paired-min [] his = omega arith
+paired-min (lo ∷ los) [] = omega arith
+paired-min (lo ∷ los) (hi ∷ his) = omega (arith, paired-min los his)
+
 pub paired-length : (los his : List ℤ) → length los ≡ length his → length (paired los his) ≡ length los
-paired-length [] his e = refl
-paired-length (lo ∷ los) [] e = absurd (omega arith)
-paired-length (lo ∷ los) (hi ∷ his) e = ap suc (paired-length los his (omega arith))
+paired-length los his e = omega (arith, e, paired-min los his)
 
 -- what f gives for the range of slot i
 pub paired-at : {A : Type 0} (f : Range → A) (d : A) (los his : List ℤ) (i : ℕ) → i < length los → i < length his →

@@ -3,6 +3,7 @@ pub mod Cases
 pub mod ChosenIn
 pub mod Demand3
 pub mod BestIsLeast
+pub mod DrawnPlan
 pub mod PlansAreJudged
 pub mod SolutionKeeps
 pub mod LeastCounts

@@ -16,6 +16,7 @@ use Rattle.rule.specs.Rule.{legalBy, nonzero, windows, covered, LeastOver, Thri
 use Rattle.settings.specs.declared.CountRange.{CountRange}
 use Rattle.settings.specs.declared.Settings.{Settings}
 use Rattle.requests.specs.Best.{Fits, best, fewest}
+use Rattle.requests.specs.Drawing.{drawnFrom}
 use Rattle.requests.specs.Promise.{Result, no-plan, planned, Outcome}
 use Rattle.requests.specs.Promise.{Loss, nothing, under-part, over-part, lowestAfter, highestAfter}
 use Rattle.requests.specs.Request.{Request, paired, filterRefusal}
@@ -43,6 +44,11 @@ leastWindowCount s cs = fewest sentinel (s .shape) cs (s .covered .most) 0 (s .w
 -- the least covered count of such slots with at most that many windows
 abbrev pub thriftCount : Settings → List Class → ℕ
 thriftCount s cs = best sentinel (s .shape) cs (leastWindowCount s cs)
+
+-- the plan that is drawn for such slots within both maximums, if there is one and the covered maximum is below the
+-- sentinel
+abbrev pub drawnPlan : Settings → List Class → List ℕ
+drawnPlan s cs = drawnFrom sentinel (s .shape) cs 0 (s .windows .most) (s .covered .most)
 
 -- The marks that are legal for slots of these classes. A len of 0 counts as 1.
 abbrev pub LegalMarks : Settings → List Class → List ℕ → Type 0

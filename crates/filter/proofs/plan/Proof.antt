@@ -1,6 +1,6 @@
 -- `filter::plan` meets its contract: what the called functions gave, taken together (`PlanAnswers`).
 use native.Mathlib.Omega.{arith}
-use mathlib.Core.Path.{_≡_, sym, _∙_}
+use mathlib.Core.Path.{_≡_, sym}
 use lib.ListN.{take}
 use lib.Seq.{take-all}
 use mir.Facts.{toZ-ofZ}
@@ -8,7 +8,8 @@ use mir.Syntax.{w32}
 use mir.Val.{SFits}
 use borrow.Author.Needs.{needs}
 use Rattle.settings.specs.Refusals.{limit}
-use Rattle.filter.proofs.PlanAnswers.{whole, whole-short, no-plan-kept, some-plan, plan-kept}
+use Rattle.filter.proofs.PlanAnswers.{wide, whole, whole-short, by-codes, no-plan-kept, plan-kept}
+use Rattle.drawing.specs.Codes.{codesOf}
 use Rattle.rule.specs.ClassCodes.{decodeAll}
 use Rattle.requests.proofs.Formed.{formed-iff}
 use Rattle.requests.specs.Request.{Request, requestOf, slots, WellFormed}
@@ -18,7 +19,7 @@ use Rattle.filter.proofs.plan.Statement.{statement}
 use Rattle.filter.proofs.plan.Tie as tie
 
 classify-requires : tie.Need-classify-requires
-classify-requires c κs = let f = formed-iff .0 (c .before .before .before .before .pre) in (f .width, f .pass .slots .1)
+classify-requires c κs = search needs
 
 -- The request, seen from where the bytes that stand for its classes are known (`k` was passed on as bits).
 abbrev request : tie.After-classify → Request
@@ -29,16 +30,19 @@ request c =
 well : (c : tie.After-classify) → WellFormed (request c)
 well c = c .before .before .before .before .before .pre
 
-by-bytes : (c : tie.After-classify) → decodeAll (take (slots (request c)) (c .classify .result)) ≡ classes (request c)
-by-bytes c =
+codes : (c : tie.After-classify) → c .classify .result ≡ codesOf (classes (request c))
+codes c =
     let k-fits : SFits w32 (request c .settings .k) = record { sfits = c .before .struct-told .given .0 .1 } in
-    simp (toZ-ofZ, k-fits) at (c .classify .ensures .1)
+    simp (toZ-ofZ, k-fits) at (c .classify .ensures)
+
+by-bytes : (c : tie.After-classify) → decodeAll (take (slots (request c)) (c .classify .result)) ≡ classes (request c)
+by-bytes c = by-codes _ (well c) _ (codes c)
 
 array-share-prefix-codes : tie.Need-array-share-prefix-codes
-array-share-prefix-codes c = omega (arith, formed-iff .0 (well c) .pass .slots .1, c .classify .ensures .0)
+array-share-prefix-codes c = omega (arith, formed-iff .0 (well c) .pass .slots .1, wide _ (well c) _ (codes c))
 
 slice-aggregate-least-counts : tie.Need-slice-aggregate-least-counts
-slice-aggregate-least-counts c = sym (whole _ (well (c .before)) _ (c .before .classify .ensures .0))
+slice-aggregate-least-counts c = sym (whole _ (well (c .before)) _ (codes (c .before)))
 
 least-counts-requires : tie.Need-least-counts-requires
 least-counts-requires c κs = search needs
@@ -51,7 +55,7 @@ counts : (c : tie.After-least-counts) →
 counts c =
     let point = c .before .before in
     rw (take-all limit (take (slots (request point)) (point .classify .result))
-    (whole-short _ (well point) _ (point .classify .ensures .0)))
+    (whole-short _ (well point) _ (codes point)))
     at (c .least-counts .ensures)
 
 same-length : tie.Need-same-length
@@ -71,33 +75,22 @@ classified c = c .before .before .before .before .before
 
 array-share-prefix-codes-2 : tie.Need-array-share-prefix-codes-2
 array-share-prefix-codes-2 c =
-    omega (arith, formed-iff .0 (well (classified c)) .pass .slots .1, classified c .classify .ensures .0)
+    let point = classified c in
+    omega (arith, formed-iff .0 (well point) .pass .slots .1, wide _ (well point) _ (codes point))
 
 slice-aggregate-draw : tie.Need-slice-aggregate-draw
 slice-aggregate-draw c =
     let point = classified (c .before) in
-    sym (whole _ (well point) _ (point .classify .ensures .0))
+    sym (whole _ (well point) _ (codes point))
 
 draw-requires : tie.Need-draw-requires
-draw-requires c κs =
-    let exists = c .before .before in
-    let point = classified exists in
-    let f = formed-iff .0 (well point) in
-    let p = f .pass in
-    let wide = point .classify .ensures .0 in (
-      whole-short _ (well point) _ wide,
-      f .marked ∙ sym (whole _ (well point) _ wide),
-      p .length .0,
-      omega (arith, p .windows .1, p .slots .1),
-      omega (arith, p .covered .1, p .slots .1),
-      some-plan _ (well point) _ (by-bytes point) _ (counts (exists .before .before .before)) (exists .if1 .left),
-    )
+draw-requires c κs = search needs
 
 narrow-requires : tie.Need-narrow-requires
 narrow-requires c κs =
     let point = classified (c .before .before .before .before .before .before .before) in
     let f = formed-iff .0 (well point) in
-    (point .classify .ensures .0, f .pass .slots .1, f .width, f .pass .length .0, by-bytes point)
+    (wide _ (well point) _ (codes point), f .pass .slots .1, f .width, f .pass .length .0, by-bytes point)
 
 raise-requires : tie.Need-raise-requires
 raise-requires c κs = search needs
@@ -120,8 +113,10 @@ returns-2 c =
     let drawn = narrowed .before .before .before .before .before in
     let exists = drawn .before .before .before in
     let point = classified exists in
-    plan-kept _ (well point) _ (by-bytes point) _ (counts (exists .before .before .before)) (exists .if1 .left) _
-    (drawn .draw .ensures)
+    let whole = take-all limit (take (slots (request point)) (point .classify .result))
+    (whole-short _ (well point) _ (codes point)) in
+    plan-kept _ (well point) _ (by-bytes point) _ (counts (exists .before .before .before))
+    (exists .if1 .left) (rw whole at (drawn .draw .ensures))
     (c .before .raise .ensures) (c .raise2 .ensures) (narrowed .narrow .ensures)
 
 pub plan-spec : {M : Type 1} → statement M

@@ -1,7 +1,7 @@
--- `filter::draw::close_window` meets its contract: its tests are the definition's.
+-- `drawing::marks::close_window` meets its contract: its tests are the definition's.
 use Rattle.facts.proofs.Tests.{rules}
-use Rattle.filter.proofs.draw.close_window.Statement.{statement}
-use Rattle.filter.proofs.draw.close_window.Tie as tie
+use Rattle.drawing.proofs.marks.close_window.Statement.{statement}
+use Rattle.drawing.proofs.marks.close_window.Tie as tie
 
 returns : tie.Need-returns
 returns c = search rules

@@ -1,0 +1,3 @@
+pub mod Codes
+mod ClassifyLoop
+mod DrawLoop
