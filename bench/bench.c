@@ -96,7 +96,6 @@ static unsigned calls_for_sample(filter *f, const struct request *r)
     return calls;
 }
 
-/* Which plan is drawn is left open, so the marks are not compared. */
 static void compare(const struct request *r)
 {
     struct request a = *r, b = *r;
@@ -104,7 +103,8 @@ static void compare(const struct request *r)
     if (x.code != y.code || x.slot != y.slot ||
         x.windows_least != y.windows_least || x.windows_most != y.windows_most ||
         x.covered_least != y.covered_least || x.covered_most != y.covered_most || x.thrift != y.thrift ||
-        memcmp(a.lowest, b.lowest, sizeof a.lowest) != 0 || memcmp(a.highest, b.highest, sizeof a.highest) != 0) {
+        memcmp(a.lowest, b.lowest, sizeof a.lowest) != 0 || memcmp(a.highest, b.highest, sizeof a.highest) != 0 ||
+        memcmp(a.marks, b.marks, sizeof a.marks) != 0) {
         printf("the library and plain C differ\n");
         exit(1);
     }

@@ -115,7 +115,7 @@ static void narrow(const struct problem *p, int32_t k, int32_t *lowest, int32_t 
     }
 }
 
-/* Goes forward and closes each window as soon as the rest fits into what is left of both maximums. */
+/* The first plan: goes forward and closes each window as soon as the rest fits into what is left of both maximums. */
 static void draw(const struct problem *p, uint8_t *marks)
 {
     uint16_t windows = p->windows_most, covered = p->covered_most;

@@ -125,19 +125,14 @@ static void hold_to_search(const struct request *given, const struct request *le
 {
     struct request want = *given;
     struct icecoppice_answer wanted = search_filter(&given->settings, want.lowest + MARGIN, given->lowest_length,
-                                                    want.highest + MARGIN, given->highest_length, given->marks_length);
-    bool agree = same_answer(a, &wanted);
-    if (agree && a->code == ICECOPPICE_YES) {
-        agree = search_is_plan(&given->settings, want.lowest + MARGIN, want.highest + MARGIN, left->marks + MARGIN,
-                               given->lowest_length);
-        memcpy(want.marks, left->marks, sizeof want.marks); /* any plan will do */
-        tally_cuts(given, &want);
-    }
-    if (!agree || !same_buffers(left, &want)) {
+                                                    want.highest + MARGIN, given->highest_length,
+                                                    want.marks + MARGIN, given->marks_length);
+    if (!same_answer(a, &wanted) || !same_buffers(left, &want)) {
         print_answer("search", &wanted);
         print_request(&want);
-        fail_filter("the filter differs, or its marks are no plan; asked was:", given, left, a);
+        fail_filter("the filter differs; asked was:", given, left, a);
     }
+    tally_cuts(given, &want);
 }
 
 /* Whether each slot lost its under part, its over part or nothing. A slot that lost both could not be in a plan. */

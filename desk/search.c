@@ -2,6 +2,7 @@
 
 #include <limits.h>
 #include <stdlib.h>
+#include <string.h>
 
 struct counts {
     unsigned windows, covered;
@@ -18,7 +19,7 @@ struct drawings {
     size_t length;
 };
 
-static bool goes_with_over(uint8_t mark)
+bool search_goes_with_over(uint8_t mark)
 {
     return mark == ICECOPPICE_FIRST || mark == ICECOPPICE_LATER;
 }
@@ -75,7 +76,7 @@ static bool within_maximums(const struct settings *s, struct counts c)
 static bool loads_exist(int32_t k, const int32_t *lowest, const int32_t *highest, const uint8_t *marks, size_t n)
 {
     for (size_t j = 0; j < n; j++) {
-        if (goes_with_over(marks[j]) ? highest[j] <= k : lowest[j] > k)
+        if (search_goes_with_over(marks[j]) ? highest[j] <= k : lowest[j] > k)
             return false;
     }
     return true;
@@ -131,6 +132,7 @@ struct icecoppice_verdict search_judge(const struct settings *s, const int32_t *
     return (struct icecoppice_verdict){.code = ICECOPPICE_YES, .windows = c.windows, .covered = c.covered};
 }
 
+/* In the order of document 02's T-03: marks are compared slot by slot from slot 0, smaller mark first. */
 static struct drawings draw_all(size_t n, unsigned len, unsigned h)
 {
     size_t strings = (size_t)1 << (2 * n);
@@ -140,7 +142,7 @@ static struct drawings draw_all(size_t n, unsigned len, unsigned h)
     for (size_t string = 0; string < strings; string++) {
         struct drawing *d = &all.list[all.length];
         for (size_t j = 0; j < n; j++)
-            d->marks[j] = string >> (2 * j) & 3;
+            d->marks[j] = string >> (2 * (n - 1 - j)) & 3;
         d->counts = counts_of(d->marks, n);
         if (well_drawn(d->marks, n, len, h))
             all.length++;
@@ -163,6 +165,7 @@ static const struct drawings *drawings_of(size_t n, unsigned len, unsigned h)
 /* What occurs in the plans of a request; the thrift is the least covered count of those with the fewest windows. */
 struct findings {
     bool planned;
+    const uint8_t *first; /* the marks of the first plan */
     struct counts least;
     unsigned thrift;
     bool under[SEARCH_SLOTS], over[SEARCH_SLOTS];
@@ -177,9 +180,11 @@ static void take_in(struct findings *f, const struct drawing *d, size_t n)
         f->least.windows = d->counts.windows;
     if (!f->planned || d->counts.covered < f->least.covered)
         f->least.covered = d->counts.covered;
+    if (!f->planned)
+        f->first = d->marks;
     f->planned = true;
     for (size_t j = 0; j < n; j++) {
-        if (goes_with_over(d->marks[j]))
+        if (search_goes_with_over(d->marks[j]))
             f->over[j] = true;
         else
             f->under[j] = true;
@@ -214,7 +219,7 @@ static uint16_t larger(uint16_t given, unsigned least)
 }
 
 struct icecoppice_answer search_filter(const struct settings *s, int32_t *lowest, size_t lowest_length,
-                                       int32_t *highest, size_t highest_length, size_t marks_length)
+                                       int32_t *highest, size_t highest_length, uint8_t *marks, size_t marks_length)
 {
     size_t n = lowest_length;
     struct icecoppice_answer refused = search_refusal(s, lowest, n, highest, highest_length, marks_length);
@@ -224,6 +229,7 @@ struct icecoppice_answer search_filter(const struct settings *s, int32_t *lowest
     if (!f.planned)
         return (struct icecoppice_answer){.code = ICECOPPICE_NO};
     narrow(&f, s->k, lowest, highest, n);
+    memcpy(marks, f.first, n);
     return (struct icecoppice_answer){
         .code = ICECOPPICE_YES,
         .windows_least = larger(s->windows_least, f.least.windows),

@@ -23,13 +23,16 @@ struct settings {
     uint16_t covered_least, covered_most;
 };
 
+/* Whether the mark goes with loads above k. */
+bool search_goes_with_over(uint8_t mark);
+
 /* The refusal that the filter has to give, with its slot, or code 0 if none applies; for any number of slots. */
 struct icecoppice_answer search_refusal(const struct settings *s, const int32_t *lowest, size_t lowest_length,
                                         const int32_t *highest, size_t highest_length, size_t marks_length);
 
-/* What the filter has to answer; on "planned" the ranges are narrowed in place. Of the marks only the length counts. */
+/* What the filter has to answer; on "planned" the ranges are narrowed in place, and the marks become the first plan. */
 struct icecoppice_answer search_filter(const struct settings *s, int32_t *lowest, size_t lowest_length,
-                                       int32_t *highest, size_t highest_length, size_t marks_length);
+                                       int32_t *highest, size_t highest_length, uint8_t *marks, size_t marks_length);
 
 /* What the judge has to answer, for any number of slots. */
 struct icecoppice_verdict search_judge(const struct settings *s, const int32_t *loads, size_t loads_length,

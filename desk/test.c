@@ -19,7 +19,7 @@ enum { DAMAGED_REQUESTS = 15000, LARGE_REQUESTS = 2000, SETTLED_REQUESTS = 100 }
 
 static int32_t load_for_mark(int32_t k, uint8_t mark)
 {
-    return load_on_side(k, mark == ICECOPPICE_FIRST || mark == ICECOPPICE_LATER);
+    return load_on_side(k, search_goes_with_over(mark));
 }
 
 static size_t large_length(void)
@@ -113,7 +113,10 @@ static void compare_damaged_request(void)
     compare_filter(&r);
 }
 
-/* Asks about a request made around a plan. It has to be planned, and no load of the plan may be cut. */
+/*
+ * Asks about a request made around a plan. It has to be planned, no load of that plan may be cut, and no plan may be
+ * drawn that comes after it.
+ */
 static struct icecoppice_answer find_plan(struct request *r)
 {
     const struct request given = *r;
@@ -124,6 +127,8 @@ static struct icecoppice_answer find_plan(struct request *r)
         fail("no plan where one was drawn", &given);
     if (!search_is_plan(&r->settings, r->lowest + MARGIN, r->highest + MARGIN, given.marks + MARGIN, n))
         fail("a load of a plan was cut", &given);
+    if (memcmp(r->marks + MARGIN, given.marks + MARGIN, n) > 0)
+        fail("the plan drawn comes after this one", &given);
     return a;
 }
 
@@ -153,30 +158,78 @@ static void check_large_request(void)
         fail("planned, where a maximum is too low for the slots over; left was:", &lowered);
 }
 
-static uint16_t code_with_range(struct request r, size_t slot, int32_t lowest, int32_t highest)
+/*
+ * Asks about a request that has no plans but some of a looser one's, with the plan drawn for the looser one as its
+ * marks. That plan has to be drawn again where it is among them, and none may be drawn that comes before it.
+ */
+static uint16_t code_of_tighter(struct request r)
 {
-    r.lowest[MARGIN + slot] = lowest;
-    r.highest[MARGIN + slot] = highest;
-    return compare_filter(&r).code;
+    const struct request given = r;
+    size_t n = r.lowest_length;
+    bool still = search_is_plan(&r.settings, r.lowest + MARGIN, r.highest + MARGIN, r.marks + MARGIN, n);
+    struct icecoppice_answer a = still ? find_plan(&r) : compare_filter(&r);
+    if (a.code == ICECOPPICE_YES && memcmp(r.marks + MARGIN, given.marks + MARGIN, n) < 0)
+        fail("the plan drawn comes before this one, which was drawn for a looser request", &given);
+    return a.code;
+}
+
+static void settle(struct request *r, size_t slot, bool over)
+{
+    if (over)
+        r->lowest[MARGIN + slot] = r->settings.k + 1;
+    else
+        r->highest[MARGIN + slot] = r->settings.k;
+}
+
+static uint16_t code_when_settled(struct request r, size_t slot, bool over)
+{
+    settle(&r, slot, over);
+    return code_of_tighter(r);
 }
 
 /* Each part of an open slot is left exactly when the request with the slot settled to that part has a plan. */
 static void check_parts(const struct request *given, const struct request *left, size_t slot)
 {
     int32_t k = given->settings.k, lowest = given->lowest[MARGIN + slot], highest = given->highest[MARGIN + slot];
-    if (lowest > k || highest <= k)
-        return;
-    bool under = code_with_range(*given, slot, lowest, k) == ICECOPPICE_YES;
-    bool over = code_with_range(*given, slot, k + 1, highest) == ICECOPPICE_YES;
+    bool under = code_when_settled(*given, slot, false) == ICECOPPICE_YES;
+    bool over = code_when_settled(*given, slot, true) == ICECOPPICE_YES;
     if (left->lowest[MARGIN + slot] != (under ? lowest : k + 1) || left->highest[MARGIN + slot] != (over ? highest : k))
         fail("a part is left and has no plan when settled, or is cut and has one", given);
+}
+
+/*
+ * Settles each open slot by itself to either part; then, with those before it settled as drawn, to the part that is not
+ * drawn; at last all of them as drawn.
+ */
+static void check_slots(const struct request *given, const struct request *left)
+{
+    struct request front = *given;
+    int32_t k = given->settings.k;
+    for (size_t j = 0; j < given->lowest_length; j++) {
+        bool over = search_goes_with_over(given->marks[MARGIN + j]);
+        if (given->lowest[MARGIN + j] > k || given->highest[MARGIN + j] <= k)
+            continue;
+        check_parts(given, left, j);
+        code_when_settled(front, j, !over);
+        settle(&front, j, over);
+    }
+    code_of_tighter(front);
+}
+
+/* Lowers h, then len: no settled slot tells mark 0 from mark 3, or mark 1 from mark 2. */
+static void check_shapes(struct request r)
+{
+    for (; r.settings.h > 0; r.settings.h--)
+        code_of_tighter(r);
+    for (; r.settings.len > 0; r.settings.len--)
+        code_of_tighter(r);
 }
 
 static uint16_t code_with_maximums(struct request r, uint16_t windows_most, uint16_t covered_most)
 {
     r.settings.windows_most = windows_most;
     r.settings.covered_most = covered_most;
-    return compare_filter(&r).code;
+    return code_of_tighter(r);
 }
 
 /*
@@ -198,10 +251,8 @@ static void check_least_counts(const struct request *given, const struct icecopp
 static void check_drawn_plan(const struct request *left, const struct icecoppice_answer *a)
 {
     struct request r = *left;
-    for (size_t j = MARGIN; j < MARGIN + r.lowest_length; j++) {
-        bool over = r.marks[j] == ICECOPPICE_FIRST || r.marks[j] == ICECOPPICE_LATER;
-        r.lowest[j] = over ? left->highest[j] : left->lowest[j];
-    }
+    for (size_t j = MARGIN; j < MARGIN + r.lowest_length; j++)
+        r.lowest[j] = search_goes_with_over(r.marks[j]) ? left->highest[j] : left->lowest[j];
     struct icecoppice_verdict v = compare_judge(&r);
     if (v.code != ICECOPPICE_YES || v.windows < a->windows_least || v.covered < a->covered_least)
         fail("the judge says no to the filter's plan, or the plan has less than the least", left);
@@ -211,28 +262,48 @@ static void check_settled_request(void)
 {
     struct request r = request_with_plan(large_length());
     r.settings.windows_least = r.settings.covered_least = 0; /* so that the answer shows the least counts */
-    const struct request given = r;
+    struct request given = r;
     struct icecoppice_answer a = find_plan(&r);
-    for (size_t j = 0; j < r.lowest_length; j++)
-        check_parts(&given, &r, j);
+    memcpy(given.marks, r.marks, sizeof given.marks);
+    check_slots(&given, &r);
+    check_shapes(given);
     check_least_counts(&given, &a);
     check_drawn_plan(&r, &a);
 }
 
-/* 64 slots that are all over, at every window length: the least windows are as many as it takes to tile them. */
+/* Each window of the plan drawn has `slots` slots, but for the first, which has what is left. */
+static void check_tiles(const struct request *left, size_t slots)
+{
+    for (size_t j = 1; j < left->marks_length; j++) {
+        bool first = left->marks[MARGIN + j] == ICECOPPICE_FIRST;
+        if (first != ((left->marks_length - j) % slots == 0))
+            fail("slots over, with another plan than the first", left);
+    }
+}
+
+/*
+ * 64 slots that are all over, at every window length: the least windows are as many as it takes to tile them. The first
+ * plan has as many windows as slots where it may, and short windows before long ones.
+ */
 static void check_all_over(void)
 {
     const uint16_t n = ICECOPPICE_SLOTS;
     for (uint16_t len = 1; len <= n; len++) {
+        const uint16_t least = (n + len - 1) / len;
         struct request r = blank_request();
         r.settings = (struct settings){0, len, 0, 0, n, 0, n};
         r.lowest_length = r.highest_length = r.marks_length = n;
         for (size_t j = MARGIN; j < MARGIN + n; j++)
             r.lowest[j] = r.highest[j] = 1;
+        struct request fewest = r;
+        fewest.settings.windows_most = least;
         struct icecoppice_answer a = compare_filter(&r);
-        if (a.code != ICECOPPICE_YES || a.windows_least != (n + len - 1) / len || a.covered_least != n || a.thrift != n)
+        if (a.code != ICECOPPICE_YES || a.windows_least != least || a.covered_least != n || a.thrift != n)
             fail("64 slots over", &r);
         check_drawn_plan(&r, &a);
+        check_tiles(&r, 1);
+        compare_filter(&fewest);
+        check_tiles(&fewest, len);
     }
 }
 

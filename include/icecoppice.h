@@ -1,6 +1,7 @@
 /*
- * The boost-window planner for C11 and C++17: a filter that cuts load ranges and draws a plan, a judge of finished
- * plans, a reader and a writer of form 1 files, the camera's cards, and a watch, which counts windows slot by slot.
+ * The boost-window planner for C11 and C++17: a filter that cuts load ranges and draws the first plan, a judge of
+ * finished plans, a reader and a writer of form 1 files, the camera's cards, and a watch, which counts windows slot by
+ * slot.
  *
  * Link with libicecoppice.a (x86-64 Linux); `make install` puts it where pkg-config finds it. The functions are proved
  * for all values of their arguments. Only the test in desk/ checks these declarations against their source,
@@ -154,8 +155,9 @@ struct icecoppice_stepped {
 /*
  * Plans a burst. lowest and highest hold each slot's load range, marks receives the plan; all three have one length.
  *
- * On "planned" the ranges are narrowed to the loads that occur in some plan, and marks holds a plan within both
- * maximums. On "no plan" and on a refusal all three slices hold what they held before.
+ * On "planned" the ranges are narrowed to the loads that occur in some plan, and marks holds the first of all plans
+ * within both maximums: marks are compared slot by slot from slot 0, smaller mark first. On "no plan" and on a refusal
+ * all three slices hold what they held before.
  */
 struct icecoppice_answer icecoppice_filter(int32_t k, uint16_t len, uint16_t h,
                                            uint16_t windows_least, uint16_t windows_most,

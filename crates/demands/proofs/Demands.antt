@@ -33,12 +33,11 @@ use Rattle.published.proofs.Corners.{recount}
 use Rattle.published.proofs.Examples.{examples}
 use Rattle.published.proofs.Theorems.{theorems}
 use Rattle.published.specs.Published.{Sequence, size, sum, _⊆_, Obeys, Corners, sequencesOf}
-use Rattle.requests.proofs.Alike.{alike}
 use Rattle.requests.proofs.Cases.{all-kept, thrift-rises}
+use Rattle.requests.proofs.Decided.{decided, keeps-iff}
 use Rattle.requests.proofs.Demand3.{demand3}
-use Rattle.requests.proofs.DrawnPlan.{drawnPlan-fits}
+use Rattle.requests.proofs.DrawnPlan.{drawnPlan-first}
 use Rattle.requests.proofs.PlansAreJudged.{plan-iff-yes}
-use Rattle.requests.proofs.SolutionKeeps.{promise-kept}
 use Rattle.requests.proofs.LeastCounts.{counts-are-least}
 use Rattle.requests.proofs.Outcomes.{keeps→unaltered, keeps→refused}
 use Rattle.watch.proofs.CountIsLeast.{count-is-least, case-l}
@@ -102,7 +101,7 @@ demand1 =
       reader = reader-refuses;
       look-up = look-up-refuses;
       writer = writer-refuses;
-      decided = alike;
+      decided = decided;
       unaltered = keeps→unaltered;
       chooser = chosen→chooses;
       step = λ w load r s. s .kept;
@@ -201,11 +200,11 @@ demand2 =
 established : Established
 established =
     record {
-      kept = promise-kept;
+      computed = keeps-iff;
       starred = all-kept;
       case-l = case-l;
       counts-are-least = counts-are-least;
-      drawn = drawnPlan-fits;
+      drawn = drawnPlan-first;
       thrift =
           λ r o f. delivers-thrift r (f .well) _
           (λ X yc zc S. corners (r .settings) X yc zc S .weightedSpringy) o (f .kept);

@@ -18,6 +18,7 @@ use lib.IntN.{ℤ}
 use lib.ListN.{length}
 use mir.Syntax.{w32}
 use mir.Val.{SFits}
+use Rattle.rule.specs.Order.{First}
 use Rattle.rule.specs.Ranges.{ChosenIn, Class}
 use Rattle.rule.specs.declared.Range.{Range}
 use Rattle.rule.specs.declared.Shape.{Shape}
@@ -36,10 +37,10 @@ use Rattle.published.specs.Published.{WeightedSpringyFocus, sequencesOf, Theore
 use Rattle.published.specs.Examples.{Examples}
 use Rattle.requests.specs.Cases.{cases, Kept, ThriftRises}
 use Rattle.requests.specs.Demand3.{Demand3}
-use Rattle.requests.specs.Promise.{Outcome, Says, SaysPlanned, SaysNoPlan, Held, Unaltered, YesFor, Keeps, Alike}
+use Rattle.requests.specs.Promise.{Outcome, Says, SaysPlanned, SaysNoPlan, Held, Unaltered, YesFor, Keeps}
 use Rattle.requests.specs.Request.{Request, slots, paired, ranges, at, filterRefusal, WellFormed, PlanOf}
 use Rattle.requests.specs.declared.PlanCounts.{PlanCounts}
-use Rattle.requests.specs.Solution.{sentinel, drawnPlan, FitsAt, CountsAreLeast}
+use Rattle.requests.specs.Solution.{sentinel, drawnPlan, FitsAt, CountsAreLeast, solution}
 use Rattle.watch.specs.Promise.{meaning, Steps, Runs, RunsFromReached, CountIsLeast, CaseL}
 use Rattle.watch.specs.Start.{starting}
 use Rattle.watch.specs.States.{startRefusal, LeadsTo, Reached}
@@ -119,8 +120,8 @@ pub record Demand1 : Type 0 where
       (looking slot file ≡ refuses f) ↔ (File·refusal (row Slot (noSlot slot file)) file ≡ some f)
   pub writer : (s : Settings) (los his : List ℤ) (buffer : List ℕ) (f : Refusal) →
       (writing s los his buffer .answer ≡ refuses f) ↔ (writerRefusal s los his buffer ≡ some f)
-  -- the filter's promise decides the answer and both load slices: nothing is left open but which plan is handed back
-  pub decided : (r : Request) (o p : Outcome) → Keeps r o → Keeps r p → Alike o p
+  -- the filter's promise decides the answer and what all three slices hold
+  pub decided : (r : Request) (o p : Outcome) → Keeps r o → Keeps r p → o ≡ p
   pub unaltered : (r : Request) (o : Outcome) → Keeps r o →
       (SaysNoPlan o → Unaltered r o) × ((f : Refusal) → o .answer ≡ refuses f → Unaltered r o)
   -- the chooser hands back one of the two plans, to which the judge says yes; or the empty part, exactly where the
@@ -262,17 +263,17 @@ pub record Demand2 : Type 0 where
 
 -- What is established beside the demands. Most of it is cited nowhere else, so only its place here keeps it.
 pub record Established : Type 0 where
-  -- every request has an outcome that keeps the filter's promise
-  pub kept : (r : Request) → (o : Outcome) × Keeps r o
+  -- every request has one outcome that keeps the filter's promise, the computed one
+  pub computed : (r : Request) (o : Outcome) → Keeps r o ↔ (o ≡ solution r)
   -- the starred cases of document 01, and case L
   pub starred : Kept cases
   pub case-l : CaseL
   -- the computed least counts and thrift are the true ones for every number of slots; also what the least counts are
   -- for unchecked settings
   pub counts-are-least : (s : Settings) (cs : List Class) → CountsAreLeast s cs
-  -- what is drawn is a plan, if there is one, also for unchecked settings
+  -- what is drawn is the first plan, if there is one, also for unchecked settings
   pub drawn : (s : Settings) (cs : List Class) → s .covered .most < sentinel → (ms : List ℕ) → FitsAt s cs ms →
-      FitsAt s cs (drawnPlan s cs)
+      First (FitsAt s cs) (drawnPlan s cs)
   -- the thrift handed back, measured by WeightedSpringyFOCUS; that loosening may raise it
   pub thrift : (r : Request) (o : Outcome) → Filtered r o → (n : PlanCounts) → Says o n → let s = r .settings in
       TrueThrift r (λ X yc zc S. WeightedSpringyFocus X yc (s .shape .len) (s .shape .h) (s .k) zc S) (n .thrift)

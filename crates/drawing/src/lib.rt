@@ -1,5 +1,5 @@
-// A plan, drawn from the first slot on, for slots that are given by what each can be; and the bytes
-// that say so of a request's slots.
+// The first plan, drawn from the first slot on, for slots that are given by what each can be; and the
+// bytes that say so of a request's slots.
 ghost use mathlib.Core.Path.{_≡_};
 ghost use Prim.Native.Nat.{_+_, _<_, min};
 ghost use lib.ListN.{length, take};
@@ -57,8 +57,9 @@ fn row_for(
     filled.after
 }
 
-// Draws the first LIMIT slots into as many of the first marks (`drawnPlan`): a plan within both
-// maximums, if there is one. The settings are not checked: a len of 0 counts as 1.
+// Draws the first LIMIT slots into as many of the first marks (`drawnPlan`): the first plan within both
+// maximums, if there is one and the covered maximum is below 65,535. The settings are not checked: a
+// len of 0 counts as 1.
 pub fn draw(settings: Settings, classes: &[u8], marks: &mut [u8])
     ensures { λ _. ⌜ now (marks .exit)
         ≡ sets (now (marks .entry)) 0 (drawnPlan settings (decodeAll (take limit (now (classes .entry))))) ⌝ }

@@ -12,7 +12,6 @@ use crate::numbers::larger;
 use crate::samples::Request;
 use crate::samples::sample_request;
 use crate::search::Found;
-use crate::search::is_plan;
 use crate::search::occurrences;
 use crate::search::search;
 
@@ -39,12 +38,14 @@ pub fn agrees(request: Request, n: usize, given: Given, found: Found) -> bool
     if !found.planned {
         return (outcome.code == NO_PLAN) & is_unaltered(request, n, given);
     }
+    let marks = given.marks;
+    let first = found.first;
     (outcome.code == PLANNED)
         & (outcome.windows == larger(request.settings.windows.least, found.windows))
         & (outcome.covered == larger(request.settings.covered.least, found.covered))
         & (outcome.thrift == found.thrift)
         & is_narrowed(request, n, given, found.under, found.over)
-        & has_plan(request, n, given)
+        & same_marks(n, marks, first)
 }
 
 fn is_unaltered(request: Request, n: usize, given: Given) -> bool
@@ -99,12 +100,16 @@ fn cut(load: i32, k: i32, bound: i32, keeps: bool, over: bool) -> i32 {
     }
 }
 
-// Whether the marks handed back are a plan for the narrowed ranges.
-fn has_plan(request: Request, n: usize, given: Given) -> bool
+// Whether the first n marks are the same.
+fn same_marks(n: usize, marks: [u8; 8], others: [u8; 8]) -> bool
     requires { ⌜ n ≤ 8 ⌝ }
 {
-    let lowest = given.lowest;
-    let highest = given.highest;
-    let marks = given.marks;
-    is_plan(request.settings, n, lowest, highest, marks)
+    let mut i = 0;
+    while i < n {
+        if marks[i] != others[i] {
+            return false;
+        }
+        i += 1;
+    }
+    true
 }

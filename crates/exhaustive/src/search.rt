@@ -5,11 +5,12 @@ use crate::numbers::smaller;
 use rule::Shape;
 use settings::Settings;
 
-// What the plans found so far have: the least counts, each by itself, and the least covered count of those with the
-// fewest windows, all 8 before the first plan; a bit for each slot where loads at most k occur, and a bit for each slot
-// where loads above k do.
+// What the plans found so far have: the marks of the first one; the least counts, each by itself, and the least covered
+// count of those with the fewest windows, all 8 before the first plan; a bit for each slot where loads at most k occur,
+// and a bit for each slot where loads above k do.
 pub struct Found {
     pub planned: bool,
+    pub first: [u8; 8],
     pub windows: u16,
     pub covered: u16,
     pub thrift: u16,
@@ -17,12 +18,14 @@ pub struct Found {
     pub over: usize,
 }
 
-// Looks at all strings of n marks, for the first n ranges.
+// Looks at all strings of n marks, for the first n ranges, in the order of document 02's T-03: marks are compared slot
+// by slot from slot 0, smaller mark first.
 pub fn search(settings: Settings, n: usize, lowest: [i32; 8], highest: [i32; 8]) -> Found
     requires { ⌜ n ≤ 8 ⌝ }
 {
     let mut found = Found {
         planned: false,
+        first: [0; 8],
         windows: 8,
         covered: 8,
         thrift: 8,
@@ -32,7 +35,7 @@ pub fn search(settings: Settings, n: usize, lowest: [i32; 8], highest: [i32; 8])
     let strings = 1usize << (2 * n);
     let mut string = 0;
     while string < strings {
-        let marks = marks_of(string);
+        let marks = marks_of(string << (16 - 2 * n));
         if is_plan(settings, n, lowest, highest, marks) {
             found = with(found, n, marks);
         }
@@ -41,17 +44,17 @@ pub fn search(settings: Settings, n: usize, lowest: [i32; 8], highest: [i32; 8])
     found
 }
 
-// The digits of a number in base 4, as marks.
+// The eight lowest digits of a number in base 4, as marks. That of slot 0 is the highest of them.
 fn marks_of(string: usize) -> [u8; 8] {
     [
-        (string % 4) as u8,
-        (string / 4 % 4) as u8,
-        (string / 16 % 4) as u8,
-        (string / 64 % 4) as u8,
-        (string / 256 % 4) as u8,
-        (string / 1024 % 4) as u8,
-        (string / 4096 % 4) as u8,
         (string / 16384 % 4) as u8,
+        (string / 4096 % 4) as u8,
+        (string / 1024 % 4) as u8,
+        (string / 256 % 4) as u8,
+        (string / 64 % 4) as u8,
+        (string / 16 % 4) as u8,
+        (string / 4 % 4) as u8,
+        (string % 4) as u8,
     ]
 }
 
@@ -60,8 +63,10 @@ fn with(found: Found, n: usize, marks: [u8; 8]) -> Found
     requires { ⌜ n ≤ 8 ⌝ }
 {
     let over = over_slots(n, marks);
+    let first = if found.planned { found.first } else { marks };
     Found {
         planned: true,
+        first,
         windows: smaller(found.windows, windows(n, marks)),
         covered: smaller(found.covered, covered(n, marks)),
         thrift: thrift_with(found, windows(n, marks), covered(n, marks)),

@@ -1,8 +1,8 @@
 -- The filter's answers keep its promise: what the called functions gave, taken together.
 use Prim.Native.Nat.{ℕ, _≤_, _<_}
 use native.Mathlib.Omega.{arith}
-use mathlib.Core.Bool.{true, false, true≢false}
-use mathlib.Core.List.{List, []}
+use mathlib.Core.Bool.{true, false}
+use mathlib.Core.List.{List}
 use mathlib.Core.Path.{_≡_, sym, ap, _∙_}
 use borrow.Author.Tests.{le-leb, lt-leb}
 use lib.IntN.{ℤ}
@@ -18,9 +18,8 @@ use Rattle.settings.specs.Refusals.{limit}
 use Rattle.settings.specs.declared.CountRange.{CountRange}
 use Rattle.settings.specs.declared.Settings.{Settings}
 use Rattle.requests.proofs.SolutionKeeps.{solution-keeps}
-use Rattle.requests.proofs.DrawnPlan.{drawnFrom-length, drawnPlan-fits}
-use Rattle.requests.proofs.Formed.{formed-iff, class-slots, covered-below-sentinel, possible→fits}
-use Rattle.requests.proofs.Formed.{fits→plan}
+use Rattle.requests.proofs.DrawnPlan.{drawnFrom-length}
+use Rattle.requests.proofs.Formed.{formed-iff, class-slots}
 use Rattle.requests.specs.Promise.{no-plan, planned, Keeps}
 use Rattle.requests.specs.Request.{Request, slots, WellFormed}
 use Rattle.requests.specs.Solution.{sentinel, classes, drawnPlan, possible, lowestLeft, highestLeft, raised}
@@ -63,7 +62,7 @@ module _ (r : Request) (well : WellFormed r) where
     unfolding solution possible
     no-plan-kept e =
         let none : possible s (classes r) ≡ false = rw (← by, ← counted .2) (lt-leb _ _ e) in
-        rw (well, none) at (solution-keeps r [] (λ _ some. absurd (true≢false (sym some ∙ none))))
+        rw (well, none) at (solution-keeps r)
 
     module _ (e : least .covered ≤ s .covered .most) where
       some-plan : possible s cs ≡ true
@@ -82,10 +81,5 @@ module _ (r : Request) (well : WellFormed r) where
       unfolding solution
       plan-kept ms w c (low, high) =
           let (few, thrifty, short) = counted in
-          let good = formed-iff .0 well in
-          let possible = rw by at some-plan in
-          let (some, f) = possible→fits r good (classes r) possible in
-          let plan = fits→plan r good (drawnPlan-fits s (classes r) (covered-below-sentinel r good) some f) in
-          let kept : Keeps r (plannedOutcome r (drawnPlan s (classes r))) =
-          rw (well, possible) at (solution-keeps r (drawnPlan s (classes r)) (λ _ _. plan)) in
+          let kept : Keeps r (plannedOutcome r) = rw (well, rw by at some-plan) at (solution-keeps r) in
           rw (ms, w, c, low, high, few, thrifty, short, by, all-drawn) kept

@@ -1,5 +1,5 @@
 // The filter, in document 01's term: it cuts load ranges to the loads that occur in some plan, and
-// draws a plan. What it promises is in the crate requests: specs/Request.antt has the words of a
+// draws the first plan. What it promises is in the crate requests: specs/Request.antt has the words of a
 // request, specs/Promise.antt what comes back.
 ghost use mathlib.Core.Path.{_≡_};
 ghost use Rattle.filter.specs.AnswerMeaning.{outcomeOf};
@@ -28,7 +28,8 @@ pub enum Answer {
 }
 
 // Gives the first refusal that applies, or "no plan", or both count ranges with their minimums raised and the thrift.
-// Only in the last case does it write: the ranges lose the loads that occur in no plan, and the marks become a plan.
+// Only in the last case does it write: the ranges lose the loads that occur in no plan, and the marks become the first
+// plan.
 pub fn filter(
     settings: Settings,
     lowest: &mut [i32],

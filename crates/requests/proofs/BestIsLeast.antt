@@ -138,7 +138,7 @@ module _ (T : ℕ) (shape : Shape) where
         let spare = best-mono cs (le-refl r) (le-suc b) (le-refl w) .1 in
         omega (arith, spare)
 
-  least-le-covered : {st : State} {cs : List Class} {ms : List ℕ} (w : ℕ) →
+  pub least-le-covered : {st : State} {cs : List Class} {ms : List ℕ} (w : ℕ) →
       PlanBy allows shape st cs ms → windows ms ≤ w →
       least st cs w ≤ covered ms
   unfolding best windows covered countIf

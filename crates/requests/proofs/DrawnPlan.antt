@@ -1,21 +1,24 @@
--- What is drawn is a plan within what is left, if there is one.
+-- What is drawn is the first plan within what is left, if there is one.
 use Prim.Native.Nat.{ℕ, zero, suc, _-_, _≤_, _<_}
 use native.Mathlib.Omega.{arith}
-use mathlib.Core.Bool.{Bool, true, false, cond, not}
+use mathlib.Core.Bool.{Bool, true, false, true≢false, false≢true, cond, not}
 use mathlib.Core.List.{List, [], _∷_}
-use mathlib.Core.Path.{_≡_, refl, ap}
+use mathlib.Core.Logic.{_⊎_, inl, inr}
+use mathlib.Core.Path.{_≡_, refl, sym, ap, _∙_}
 use borrow.Author.Tests.{ltb-true, ltb-false}
 use lib.Dec.{eqb, ltb}
 use lib.ListN.{length}
 use Rattle.facts.proofs.Naturals.{suc-sub-one}
 use Rattle.facts.proofs.Tests.{cond-cases}
 use Rattle.rule.proofs.Classes.{not-allows-0→allows-1, not-allows-2→allows-3}
-use Rattle.rule.proofs.Plan.{State, out, on, PlanBy, done, skip, opens, close, more, bridges, plan→legal}
+use Rattle.rule.proofs.Order.{first-congr, level-or-same}
+use Rattle.rule.proofs.Plan.{State, out, on, PlanBy, done, skip, opens, close, more, bridges, legal→plan, plan→legal}
+use Rattle.rule.specs.Order.{_≺_, smaller, First}
 use Rattle.rule.specs.Ranges.{Class, allows}
 use Rattle.rule.specs.Rule.{countIf, windows, covered}
 use Rattle.rule.specs.declared.Shape.{Shape}
 use Rattle.settings.specs.declared.Settings.{Settings}
-use Rattle.requests.proofs.BestIsLeast.{least}
+use Rattle.requests.proofs.BestIsLeast.{least, least-le-covered}
 use Rattle.requests.proofs.LeastCounts.{exists→enough}
 use Rattle.requests.specs.Best.{usingOne, saturatingSuc, best, bestInside, bestClosable}
 use Rattle.requests.specs.Drawing.{closedMark, nextMark, leftOf, drawnFrom}
@@ -42,35 +45,119 @@ module _ (shape : Shape) where
     few : windows ms ≤ w
     short : covered ms ≤ c
 
-  -- one slot more in front
-  module _ (x : Class) (cs : List Class) (w c : ℕ) (ms : List ℕ) where
-    skipped : allows x 0 ≡ true → PlanWithin (out 0) cs w c ms → PlanWithin (out 0) (x ∷ cs) w c (0 ∷ ms)
-    unfolding windows covered countIf
-    skipped a f = record { plan = skip a (f .plan); few = f .few; short = f .short }
+  abbrev FirstFrom : State → List Class → (w c : ℕ) → List ℕ → Type 0
+  FirstFrom st cs w c = First (PlanWithin st cs w c)
 
-    opened : allows x 0 ≡ false → PlanWithin (on true (shape .len - 1) (shape .h)) cs w c ms →
-        PlanWithin (out 0) (x ∷ cs) (suc w) (suc c) (1 ∷ ms)
+  -- a window that may not close, or may not before slots that need to cover more than c
+  abbrev Stays : Bool → List Class → (w c : ℕ) → Type 0
+  Stays closes cs w c =
+      closes ≡ true → (ks : List ℕ) → PlanBy allows shape (out 0) cs ks → windows ks ≤ w → c < covered ks
+
+  no-slots : {st : State} {w c : ℕ} → PlanWithin st [] w c [] → FirstFrom st [] w c []
+  no-slots p = record { holds = p; first = λ ks q. inl (by (q .plan)) }
+    where
+      by : {st : State} {ks : List ℕ} → PlanBy allows shape st [] ks → [] ≡ ks
+      by done = refl
+      by (close q) = by q
+
+  -- One slot more in front: with its mark, the first plan of the later slots is the first of all. Another plan ks is
+  -- taken by its first constructor.
+  module _ (x : Class) (cs : List Class) (w c : ℕ) where
+    skip-before : {ms ks : List ℕ} → FirstFrom (out 0) cs w c ms → PlanBy allows shape (out 0) (x ∷ cs) ks →
+        windows ks ≤ w → covered ks ≤ c → (0 ∷ ms ≡ ks) ⊎ (0 ∷ ms ≺ ks)
+    unfolding windows covered countIf
+    skip-before f (skip m p) few short = level-or-same 0 (f .first _ (record { plan = p; few = few; short = short }))
+    skip-before f (opens m p) few short = inr (smaller {m = 0} {k = 1} (omega arith))
+
+    skipped : {ms : List ℕ} → allows x 0 ≡ true → FirstFrom (out 0) cs w c ms → FirstFrom (out 0) (x ∷ cs) w c (0 ∷ ms)
+    unfolding windows covered countIf
+    skipped a f =
+        record {
+          holds = record { plan = skip a (f .holds .plan); few = f .holds .few; short = f .holds .short };
+          first = λ ks p. skip-before f (p .plan) (p .few) (p .short);
+        }
+
+    open-before : {ms ks : List ℕ} → allows x 0 ≡ false → FirstFrom (on true (shape .len - 1) (shape .h)) cs w c ms →
+        PlanBy allows shape (out 0) (x ∷ cs) ks → windows ks ≤ suc w → covered ks ≤ suc c →
+        (1 ∷ ms ≡ ks) ⊎ (1 ∷ ms ≺ ks)
+    unfolding windows covered countIf
+    open-before a f (skip m p) few short = absurd (true≢false (sym m ∙ a))
+    open-before a f (opens m p) few short =
+        level-or-same 1 (f .first _ (record { plan = p; few = omega arith; short = omega arith }))
+
+    opened : {ms : List ℕ} → allows x 0 ≡ false → FirstFrom (on true (shape .len - 1) (shape .h)) cs w c ms →
+        FirstFrom (out 0) (x ∷ cs) (suc w) (suc c) (1 ∷ ms)
     unfolding windows covered countIf
     opened a f =
         record {
-          plan = opens (not-allows-0→allows-1 x a) (f .plan);
-          few = omega (arith, f .few);
-          short = omega (arith, f .short);
+          holds = record {
+            plan = opens (not-allows-0→allows-1 x a) (f .holds .plan);
+            few = omega (arith, f .holds .few);
+            short = omega (arith, f .holds .short);
+          };
+          first = λ ks p. open-before a f (p .plan) (p .few) (p .short);
         }
 
-    closed : (r b : ℕ) → PlanWithin (out 0) (x ∷ cs) w c ms → PlanWithin (on true r b) (x ∷ cs) w c ms
-    closed r b f = record { plan = close (f .plan); few = f .few; short = f .short }
+    -- what begins outside a window comes before what continues one
+    close-before : {r b : ℕ} {ms ks : List ℕ} → FirstFrom (out 0) (x ∷ cs) w c ms →
+        PlanBy allows shape (out 0) (x ∷ cs) ms → PlanBy allows shape (on true r b) (x ∷ cs) ks →
+        windows ks ≤ w → covered ks ≤ c → (ms ≡ ks) ⊎ (ms ≺ ks)
+    close-before f m (close p) few short = f .first _ (record { plan = p; few = few; short = short })
+    close-before f (skip m p) (more o q) few short = inr (smaller {m = 0} {k = 2} (omega arith))
+    close-before f (skip m p) (bridges o q) few short = inr (smaller {m = 0} {k = 3} (omega arith))
+    close-before f (opens m p) (more o q) few short = inr (smaller {m = 1} {k = 2} (omega arith))
+    close-before f (opens m p) (bridges o q) few short = inr (smaller {m = 1} {k = 3} (omega arith))
 
-    continued : (closes : Bool) (r b : ℕ) → allows x 2 ≡ true → PlanWithin (on true r b) cs w c ms →
-        PlanWithin (on closes (suc r) b) (x ∷ cs) w (suc c) (2 ∷ ms)
-    unfolding windows covered countIf
-    continued closes r b a f = record { plan = more a (f .plan); few = f .few; short = omega (arith, f .short) }
+    closed : {r b : ℕ} {ms : List ℕ} → FirstFrom (out 0) (x ∷ cs) w c ms → FirstFrom (on true r b) (x ∷ cs) w c ms
+    closed f =
+        record {
+          holds = record { plan = close (f .holds .plan); few = f .holds .few; short = f .holds .short };
+          first = λ ks p. close-before f (f .holds .plan) (p .plan) (p .few) (p .short);
+        }
 
-    bridged : (closes : Bool) (r b : ℕ) → allows x 2 ≡ false → PlanWithin (on false r b) cs w c ms →
-        PlanWithin (on closes (suc r) (suc b)) (x ∷ cs) w (suc c) (3 ∷ ms)
+    over-before : {closes : Bool} {r b : ℕ} {ms ks : List ℕ} → Stays closes (x ∷ cs) w (suc c) →
+        FirstFrom (on true r b) cs w c ms → PlanBy allows shape (on closes (suc r) b) (x ∷ cs) ks →
+        windows ks ≤ w → covered ks ≤ suc c → (2 ∷ ms ≡ ks) ⊎ (2 ∷ ms ≺ ks)
     unfolding windows covered countIf
-    bridged closes r b a f =
-        record { plan = bridges (not-allows-2→allows-3 x a) (f .plan); few = f .few; short = omega (arith, f .short) }
+    over-before {ks = ks} stays f (close p) few short = absurd (omega (arith, stays refl ks p few))
+    over-before stays f (more m p) few short =
+        level-or-same 2 (f .first _ (record { plan = p; few = few; short = omega arith }))
+    over-before stays f (bridges m p) few short = inr (smaller {m = 2} {k = 3} (omega arith))
+
+    continued : {closes : Bool} {r b : ℕ} {ms : List ℕ} → Stays closes (x ∷ cs) w (suc c) → allows x 2 ≡ true →
+        FirstFrom (on true r b) cs w c ms → FirstFrom (on closes (suc r) b) (x ∷ cs) w (suc c) (2 ∷ ms)
+    unfolding windows covered countIf
+    continued stays a f =
+        record {
+          holds = record {
+            plan = more a (f .holds .plan);
+            few = f .holds .few;
+            short = omega (arith, f .holds .short);
+          };
+          first = λ ks p. over-before stays f (p .plan) (p .few) (p .short);
+        }
+
+    bridge-before : {closes : Bool} {r b : ℕ} {ms ks : List ℕ} → Stays closes (x ∷ cs) w (suc c) → allows x 2 ≡ false →
+        FirstFrom (on false r b) cs w c ms → PlanBy allows shape (on closes (suc r) (suc b)) (x ∷ cs) ks →
+        windows ks ≤ w → covered ks ≤ suc c → (3 ∷ ms ≡ ks) ⊎ (3 ∷ ms ≺ ks)
+    unfolding windows covered countIf
+    bridge-before {ks = ks} stays a f (close p) few short = absurd (omega (arith, stays refl ks p few))
+    bridge-before stays a f (more m p) few short = absurd (true≢false (sym m ∙ a))
+    bridge-before stays a f (bridges m p) few short =
+        level-or-same 3 (f .first _ (record { plan = p; few = few; short = omega arith }))
+
+    bridged : {closes : Bool} {r b : ℕ} {ms : List ℕ} → Stays closes (x ∷ cs) w (suc c) → allows x 2 ≡ false →
+        FirstFrom (on false r b) cs w c ms → FirstFrom (on closes (suc r) (suc b)) (x ∷ cs) w (suc c) (3 ∷ ms)
+    unfolding windows covered countIf
+    bridged stays a f =
+        record {
+          holds = record {
+            plan = bridges (not-allows-2→allows-3 x a) (f .holds .plan);
+            few = f .holds .few;
+            short = omega (arith, f .holds .short);
+          };
+          first = λ ks p. bridge-before stays a f (p .plan) (p .few) (p .short);
+        }
 
 module _ (T : ℕ) (shape : Shape) where
   -- each slot gets a mark
@@ -86,58 +173,62 @@ module _ (T : ℕ) (shape : Shape) where
   abbrev Draws : List Class → Type 0
   Draws cs =
       (m : ℕ) (st : State) → After m st → (w c : ℕ) → least T shape st cs w ≤ c → c < T →
-      PlanWithin shape st cs w c (drawnFrom T shape cs m w c)
+      FirstFrom shape st cs w c (drawnFrom T shape cs m w c)
 
   module _ (x : Class) (cs : List Class) (later : Draws cs) where
     draws-outside : (w c : ℕ) → best T shape (x ∷ cs) w ≤ c → c < T →
-        PlanWithin shape (out 0) (x ∷ cs) w c (fromMark cs (cond (allows x 0) 0 1) w c)
+        FirstFrom shape (out 0) (x ∷ cs) w c (fromMark cs (cond (allows x 0) 0 1) w c)
     unfolding best
     draws-outside w c e below = by (allows x 0) refl w c e below
       where
         by : (free : Bool) → allows x 0 ≡ free → (w c : ℕ) →
             cond free (best T shape cs w)
             (saturatingSuc T (usingOne T w λ w. bestClosable T shape cs (shape .len - 1) (shape .h) w)) ≤ c → c < T →
-            PlanWithin shape (out 0) (x ∷ cs) w c (fromMark cs (cond free 0 1) w c)
-        by true a w c e below = skipped shape x cs w c _ a (later _ _ outside w c e below)
+            FirstFrom shape (out 0) (x ∷ cs) w c (fromMark cs (cond free 0 1) w c)
+        by true a w c e below = skipped shape x cs w c a (later _ _ outside w c e below)
         by false a zero c e below = absurd (omega arith)
         by false a (suc w) zero e below = absurd (omega arith)
         by false a (suc w) (suc c) e below =
             rw (suc-sub-one w, suc-sub-one c)
-            (opened shape x cs w c _ a (later _ _ first-slot w c (omega arith) (omega arith)))
+            (opened shape x cs w c a (later _ _ first-slot w c (omega arith) (omega arith)))
 
-    draws-inside : (closes : Bool) (r b w c : ℕ) → bestInside T shape (x ∷ cs) r b w ≤ c → c < T →
-        PlanWithin shape (on closes r b) (x ∷ cs) w c (fromMark cs (cond (allows x 2) 2 3) w c)
+    draws-inside : (closes : Bool) (r b w c : ℕ) → Stays shape closes (x ∷ cs) w c →
+        bestInside T shape (x ∷ cs) r b w ≤ c → c < T →
+        FirstFrom shape (on closes r b) (x ∷ cs) w c (fromMark cs (cond (allows x 2) 2 3) w c)
     unfolding bestInside
-    draws-inside closes r b w c e below = by (allows x 2) refl r b c e below
+    draws-inside closes r b w c stays e below = by (allows x 2) refl r b c stays e below
       where
-        by : (over : Bool) → allows x 2 ≡ over → (r b c : ℕ) →
+        by : (over : Bool) → allows x 2 ≡ over → (r b c : ℕ) → Stays shape closes (x ∷ cs) w c →
             saturatingSuc T
             (usingOne T r λ r.
             cond over (bestClosable T shape cs r b w) (usingOne T b λ b. bestInside T shape cs r b w)) ≤ c → c < T →
-            PlanWithin shape (on closes r b) (x ∷ cs) w c (fromMark cs (cond over 2 3) w c)
-        by over a zero b c e below = absurd (omega arith)
-        by over a (suc r) b zero e below = absurd (omega arith)
-        by true a (suc r) b (suc c) e below =
+            FirstFrom shape (on closes r b) (x ∷ cs) w c (fromMark cs (cond over 2 3) w c)
+        by over a zero b c stays e below = absurd (omega arith)
+        by over a (suc r) b zero stays e below = absurd (omega arith)
+        by true a (suc r) b (suc c) stays e below =
             rw (suc-sub-one c)
-            (continued shape x cs w c _ closes r b a (later _ _ over-slot w c (omega arith) (omega arith)))
-        by false a (suc r) zero (suc c) e below = absurd (omega arith)
-        by false a (suc r) (suc b) (suc c) e below =
-            rw (suc-sub-one c) (bridged shape x cs w c _ closes r b a (later _ _ bridge w c (omega arith) (omega arith)))
+            (continued shape x cs w c stays a (later _ _ over-slot w c (omega arith) (omega arith)))
+        by false a (suc r) zero (suc c) stays e below = absurd (omega arith)
+        by false a (suc r) (suc b) (suc c) stays e below =
+            rw (suc-sub-one c)
+            (bridged shape x cs w c stays a (later _ _ bridge w c (omega arith) (omega arith)))
 
     -- after an over slot the window closes if it can
     draws-closable : (m r b w c : ℕ) → eqb m 0 ≡ false → bestClosable T shape (x ∷ cs) r b w ≤ c → c < T →
-        PlanWithin shape (on true r b) (x ∷ cs) w c
+        FirstFrom shape (on true r b) (x ∷ cs) w c
         (fromMark cs (nextMark (cond (ltb c (best T shape (x ∷ cs) w)) m 0) x) w c)
     draws-closable m r b w c in-window e below = by (ltb c (best T shape (x ∷ cs) w)) refl
       where
         by : (stays : Bool) → ltb c (best T shape (x ∷ cs) w) ≡ stays →
-            PlanWithin shape (on true r b) (x ∷ cs) w c (fromMark cs (nextMark (cond stays m 0) x) w c)
+            FirstFrom shape (on true r b) (x ∷ cs) w c (fromMark cs (nextMark (cond stays m 0) x) w c)
         by true s =
             let dear : c < best T shape (x ∷ cs) w = ltb-true _ _ s in
-            rw in-window (draws-inside true r b w c (omega (arith, dear, e)) below)
+            rw in-window
+            (draws-inside true r b w c (λ _ ks p few. omega (arith, dear, least-le-covered T shape w p few))
+            (omega (arith, dear, e)) below)
         by false s =
             let enough : best T shape (x ∷ cs) w ≤ c = ltb-false _ _ s in
-            closed shape x cs w c _ r b (draws-outside w c enough below)
+            closed shape x cs w c (draws-outside w c enough below)
 
     draws-more : Draws (x ∷ cs)
     unfolding drawnFrom
@@ -145,19 +236,23 @@ module _ (T : ℕ) (shape : Shape) where
         rw (closed-outside c (best T shape (x ∷ cs) w)) (draws-outside w c e below)
     draws-more m st first-slot w c e below = draws-closable 1 _ _ w c refl e below
     draws-more m st over-slot w c e below = draws-closable 2 _ _ w c refl e below
-    draws-more m st bridge w c e below = draws-inside false _ _ w c e below
+    draws-more m st bridge w c e below = draws-inside false _ _ w c (λ closes. absurd (false≢true closes)) e below
 
   draws : (cs : List Class) → Draws cs
   unfolding drawnFrom bestInside windows covered countIf
-  draws [] m st outside w c e below = record { plan = done; few = omega arith; short = omega arith }
-  draws [] m st first-slot w c e below = record { plan = close done; few = omega arith; short = omega arith }
-  draws [] m st over-slot w c e below = record { plan = close done; few = omega arith; short = omega arith }
+  draws [] m st outside w c e below = no-slots shape (record { plan = done; few = omega arith; short = omega arith })
+  draws [] m st first-slot w c e below =
+      no-slots shape (record { plan = close done; few = omega arith; short = omega arith })
+  draws [] m st over-slot w c e below =
+      no-slots shape (record { plan = close done; few = omega arith; short = omega arith })
   draws [] m st bridge w c e below = absurd (omega arith)
   draws (x ∷ cs) m st a w c e below = draws-more x cs (draws cs) m st a w c e below
 
 -- within both maximums, for all settings with a covered maximum below the sentinel
-pub drawnPlan-fits : (s : Settings) (cs : List Class) → s .covered .most < sentinel → (ms : List ℕ) → FitsAt s cs ms →
-    FitsAt s cs (drawnPlan s cs)
-drawnPlan-fits s cs below ms some =
-    let f = draws sentinel (s .shape) cs 0 (out 0) outside _ _ (exists→enough sentinel (s .shape) cs _ _ some) below in
-    record { in-rule = plan→legal allows (s .shape) cs _ (f .plan); few = f .few; short = f .short }
+pub drawnPlan-first : (s : Settings) (cs : List Class) → s .covered .most < sentinel → (ms : List ℕ) → FitsAt s cs ms →
+    First (FitsAt s cs) (drawnPlan s cs)
+drawnPlan-first s cs below ms some =
+    first-congr
+    (λ ks p. record { in-rule = plan→legal allows (s .shape) cs ks (p .plan); few = p .few; short = p .short })
+    (λ ks f. record { plan = legal→plan allows (s .shape) cs ks (f .in-rule); few = f .few; short = f .short })
+    (draws sentinel (s .shape) cs 0 (out 0) outside _ _ (exists→enough sentinel (s .shape) cs _ _ some) below)

@@ -1,4 +1,4 @@
-pub mod Alike
+pub mod Decided
 pub mod Cases
 pub mod ChosenIn
 pub mod Demand3

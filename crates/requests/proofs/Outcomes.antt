@@ -7,10 +7,11 @@ use mathlib.Core.Option.{some, Option·some-ne-none, Option·some-injective}
 use mathlib.Core.Path.{_≡_, refl, sym, ap, _∙_, subst}
 use Rattle.refusals.specs.Answer.{Answer, refuses, gives}
 use Rattle.refusals.specs.declared.Refusal.{Refusal}
-use Rattle.requests.proofs.SolutionKeeps.{promise-kept}
+use Rattle.requests.proofs.SolutionKeeps.{solution-keeps}
 use Rattle.requests.specs.Promise.{Result, no-plan, planned, Outcome, Says, SaysPlanned, SaysNoPlan}
 use Rattle.requests.specs.Promise.{Unaltered, Planned, NoPlan, Answers, Keeps}
 use Rattle.requests.specs.Request.{Request, filterRefusal, WellFormed, PlanOf, LeastWindows, LeastCovered}
+use Rattle.requests.specs.Solution.{solution}
 use Rattle.requests.specs.declared.PlanCounts.{PlanCounts}
 
 -- an outcome that says "planned", with what the promise says of it
@@ -65,11 +66,11 @@ module _ (r : Request) (o : Outcome) (keeps : Keeps r o) where
 
 -- a request with a plan has both least counts
 module _ (r : Request) (w : WellFormed r) (ms : List ℕ) (p : PlanOf r ms) where
-  some-outcome : (o : Outcome) × IsPlanned r o
-  some-outcome = let (o, kept) = promise-kept r in (o, plan→planned r o kept w ms p)
+  solved : IsPlanned r (solution r)
+  solved = plan→planned r (solution r) (solution-keeps r) w ms p
 
   pub least-windows : (v : ℕ) × LeastWindows r v
-  least-windows = let (o, i) = some-outcome in (i .promise .windows .value, i .promise .windows .least)
+  least-windows = let counted = solved .promise .windows in (counted .value, counted .least)
 
   pub least-covered : (v : ℕ) × LeastCovered r v
-  least-covered = let (o, i) = some-outcome in (i .promise .covered .value, i .promise .covered .least)
+  least-covered = let counted = solved .promise .covered in (counted .value, counted .least)

@@ -1,7 +1,6 @@
 -- The starred cases of document 01 ("Station plans worked by hand"), each with what the filter has to hand back: one
--- list, and the claim that every outcome in it keeps the promise (proved in proofs/Cases.antt). The promise leaves open
--- which plan is handed back; each case states one. After the list, two requests of which the looser has the larger
--- thrift.
+-- list, and the claim that every outcome in it keeps the promise (proved in proofs/Cases.antt). After the list, two
+-- requests of which the looser has the larger thrift.
 use Prim.Native.Nat.{ℕ}
 use mathlib.Core.List.{List, [], _∷_, map}
 use lib.IntN.{ℤ, pos, negsuc}
@@ -50,7 +49,7 @@ noPlan s lowest highest =
 abbrev pub counts : (windows covered : CountRange) (thrift : ℕ) → PlanCounts
 counts windows covered thrift = record { windows = windows; covered = covered; thrift = thrift }
 
--- a case answered "planned", with both count ranges, the thrift, the narrowed load ranges and a plan
+-- a case answered "planned", with both count ranges, the thrift, the narrowed load ranges and the first plan
 abbrev cut : Settings → (lowest highest : List ℤ) → (windows covered : CountRange) (thrift : ℕ) →
     (lowest′ highest′ : List ℤ) → (marks : List ℕ) → Case
 cut s lowest highest windows covered thrift lowest′ highest′ marks =
@@ -117,7 +116,7 @@ cases =
     (loads (1 ∷ 1 ∷ 1 ∷ 1 ∷ 0 ∷ 1 ∷ 1 ∷ 1 ∷ [])) (loads (1 ∷ 1 ∷ 1 ∷ 1 ∷ 0 ∷ 1 ∷ 1 ∷ 1 ∷ []))
     (1 ∷ 2 ∷ 2 ∷ 2 ∷ 0 ∷ 1 ∷ 2 ∷ 2 ∷ [])
     -- G: one plan has 2 windows, another covers 5 slots
-    ∷ uncut (plainSettings 5 (0 ‥ 4) (0 ‥ 8)) lowestF highestF (2 ‥ 4) (5 ‥ 8) 7 (1 ∷ 2 ∷ 2 ∷ 2 ∷ 0 ∷ 1 ∷ 2 ∷ 2 ∷ [])
+    ∷ uncut (plainSettings 5 (0 ‥ 4) (0 ‥ 8)) lowestF highestF (2 ‥ 4) (5 ‥ 8) 7 (1 ∷ 0 ∷ 1 ∷ 1 ∷ 0 ∷ 1 ∷ 2 ∷ 2 ∷ [])
     -- no plan does both
     ∷ noPlan (plainSettings 5 (0 ‥ 2) (0 ‥ 5)) lowestF highestF
     -- H
@@ -127,9 +126,9 @@ cases =
     ∷ uncut (settings largest 1 0 (0 ‥ 0) (0 ‥ 2)) (largest ∷ largest ∷ []) (largest ∷ largest ∷ []) (0 ‥ 0)
     (0 ‥ 2) 0 (0 ∷ 0 ∷ [])
     -- J
-    ∷ uncut (plainSettings 3 (0 ‥ 7) (0 ‥ 7)) highestD highestD (3 ‥ 7) (7 ‥ 7) 7 (1 ∷ 2 ∷ 2 ∷ 1 ∷ 2 ∷ 2 ∷ 1 ∷ [])
+    ∷ uncut (plainSettings 3 (0 ‥ 7) (0 ‥ 7)) highestD highestD (3 ‥ 7) (7 ‥ 7) 7 (1 ∷ 1 ∷ 1 ∷ 1 ∷ 1 ∷ 1 ∷ 1 ∷ [])
     -- loads 5, 1, 5 need one window at k = 0 and two at k = 1 ("Plausible programs that are wrong")
-    ∷ uncut (plainSettings 3 (0 ‥ 3) (0 ‥ 3)) loads515 loads515 (1 ‥ 3) (3 ‥ 3) 3 (1 ∷ 2 ∷ 2 ∷ [])
+    ∷ uncut (plainSettings 3 (0 ‥ 3) (0 ‥ 3)) loads515 loads515 (1 ‥ 3) (3 ‥ 3) 3 (1 ∷ 1 ∷ 1 ∷ [])
     ∷ uncut (settings (pos 1) 3 0 (0 ‥ 3) (0 ‥ 3)) loads515 loads515 (2 ‥ 3) (2 ‥ 3) 2 (1 ∷ 0 ∷ 1 ∷ [])
     ∷ []
 

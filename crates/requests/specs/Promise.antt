@@ -10,6 +10,7 @@ use lib.ListN.{length}
 use lib.Signed.{ltZ, _≤ℤ_}
 use Rattle.refusals.specs.Answer.{Answer, refuses, gives}
 use Rattle.judge.specs.Judgment.{says, judgment}
+use Rattle.rule.specs.Order.{First}
 use Rattle.rule.specs.Ranges.{ChosenIn}
 use Rattle.rule.specs.declared.Range.{Range}
 use Rattle.rule.specs.Rule.{windows, covered, LeastOver}
@@ -97,6 +98,8 @@ pub record Planned (r : Request) (n : PlanCounts) (o : Outcome) : Type 0 where
   pub narrowed : (i : ℕ) → i < slots r → Narrowed r o i
   -- the marks hold a legal plan within both maximums, for loads in the narrowed ranges
   pub drawn : YesFor (r .settings) (paired (o .lowest) (o .highest)) (o .marks)
+  -- it is the first of all plans, the ranges being as given (document 02, T-03)
+  pub first : First (PlanOf r) (o .marks)
 
 abbrev pub NoPlan : Request → Type 0
 NoPlan r = (ms : List ℕ) → PlanOf r ms → ⊥
@@ -109,10 +112,3 @@ Answers r (gives (planned n)) o = WellFormed r × Planned r n o
 
 abbrev pub Keeps : Request → Outcome → Type 0
 Keeps r o = Answers r (o .answer) o
-
--- Two outcomes that keep the promise for one request are alike (proofs/Alike.antt): the promise leaves open only which
--- plan is handed back.
-pub record Alike (o p : Outcome) : Type 0 where
-  pub answer : o .answer ≡ p .answer
-  pub lowest : o .lowest ≡ p .lowest
-  pub highest : o .highest ≡ p .highest

@@ -1,6 +1,6 @@
--- What the filter hands back with a plan of its choice, computed by `best`. The crate `least` and private functions of
--- the filter promise to give it; the filter's promise does not rest on it. It keeps that promise
--- (proofs/SolutionKeeps.antt).
+-- What the filter hands back, computed by `best`. The crates `least` and `drawing` and private functions of the filter
+-- promise to give it; the filter's promise does not rest on it. It keeps that promise (proofs/SolutionKeeps.antt), and
+-- nothing else does (proofs/Decided.antt).
 use Prim.Native.Nat.{ℕ, suc, _≤_, _<_, max}
 use mathlib.Core.Bool.{Bool, true, false, cond}
 use mathlib.Core.List.{List, [], _∷_, map}
@@ -45,8 +45,7 @@ leastWindowCount s cs = fewest sentinel (s .shape) cs (s .covered .most) 0 (s .w
 abbrev pub thriftCount : Settings → List Class → ℕ
 thriftCount s cs = best sentinel (s .shape) cs (leastWindowCount s cs)
 
--- the plan that is drawn for such slots within both maximums, if there is one and the covered maximum is below the
--- sentinel
+-- the first plan of such slots within both maximums, if there is one and the covered maximum is below the sentinel
 abbrev pub drawnPlan : Settings → List Class → List ℕ
 drawnPlan s cs = drawnFrom sentinel (s .shape) cs 0 (s .windows .most) (s .covered .most)
 
@@ -105,9 +104,9 @@ highestLeft s cs = mapIndexed (λ i hi. highestAfter (s .k) (loss s cs i) hi)
 abbrev pub raised : CountRange → ℕ → CountRange
 raised given least = record { least = max (given .least) least; most = given .most }
 
--- the outcome where a plan is found and has these marks
-abbrev pub plannedOutcome : Request → List ℕ → Outcome
-plannedOutcome r ms =
+-- the outcome where there is a plan
+abbrev pub plannedOutcome : Request → Outcome
+plannedOutcome r =
     let s = r .settings in
     let cs = classes r in
     record {
@@ -118,16 +117,16 @@ plannedOutcome r ms =
       }));
       lowest = lowestLeft s cs (r .lowest);
       highest = highestLeft s cs (r .highest);
-      marks = ms;
+      marks = drawnPlan s cs;
     }
 
 abbrev pub unalteredOutcome : Request → Answer Result → Outcome
 unalteredOutcome r a = record { answer = a; lowest = r .lowest; highest = r .highest; marks = r .marks }
 
-abbrev pub solutionBy : Option Refusal → Bool → Request → List ℕ → Outcome
-solutionBy (some f) possible r ms = unalteredOutcome r (refuses f)
-solutionBy none false r ms = unalteredOutcome r (gives no-plan)
-solutionBy none true r ms = plannedOutcome r ms
+abbrev pub solutionBy : Option Refusal → Bool → Request → Outcome
+solutionBy (some f) possible r = unalteredOutcome r (refuses f)
+solutionBy none false r = unalteredOutcome r (gives no-plan)
+solutionBy none true r = plannedOutcome r
 
-unfoldable pub solution : Request → List ℕ → Outcome
-solution r ms = solutionBy (filterRefusal r) (possible (r .settings) (classes r)) r ms
+unfoldable pub solution : Request → Outcome
+solution r = solutionBy (filterRefusal r) (possible (r .settings) (classes r)) r

@@ -2,6 +2,7 @@ pub mod MarkKinds
 pub mod Classes
 pub mod ClassCodes
 pub mod LeastOver
+pub mod Order
 pub mod Sides
 pub mod LooserShape
 pub mod NoWindows

@@ -1,4 +1,5 @@
 pub mod ClassCodes
 pub mod Rule
+pub mod Order
 pub mod Ranges
 pub mod ScanState

@@ -19,6 +19,15 @@ shl-strings c = search needs
 loop-holds : tie.Need-loop-holds Inv-loop μ-loop
 loop-holds c = search needs
 
+mul-marks-of : tie.Need-mul-marks-of Inv-loop μ-loop
+mul-marks-of c = search needs
+
+sub-marks-of : tie.Need-sub-marks-of Inv-loop μ-loop
+sub-marks-of c = search needs
+
+shl-marks-of : tie.Need-shl-marks-of Inv-loop μ-loop
+shl-marks-of c = search needs
+
 marks-of-requires : tie.Need-marks-of-requires Inv-loop μ-loop
 marks-of-requires c κs = search needs
 
@@ -49,6 +58,9 @@ search-spec =
     mul-strings
     shl-strings
     loop-holds
+    mul-marks-of
+    sub-marks-of
+    shl-marks-of
     marks-of-requires
     is-plan-requires
     with-requires

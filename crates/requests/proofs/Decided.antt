@@ -1,26 +1,35 @@
--- The promise decides the answer and both load slices.
+-- The promise decides the whole outcome: an outcome keeps it exactly when it is the computed one.
 use Prim.Native.Nat.{ℕ, _<_}
 use native.Mathlib.Omega.{arith}
 use mathlib.Core.List.{List}
+use mathlib.Core.Logic.{_↔_}
 use mathlib.Core.Option.{Option·some-ne-none, Option·some-injective}
-use mathlib.Core.Path.{_≡_, refl, sym, ap, _∙_}
+use mathlib.Core.Path.{_≡_, refl, sym, ap, _∙_, subst}
 use lib.IntN.{ℤ, pos}
 use lib.Seq.{ext-getD}
 use lib.Signed.{_≤ℤ_, ≤ℤ-refl}
 use Rattle.facts.proofs.Integers.{≤ℤ-trans, ≤ℤ-antisym}
 use Rattle.refusals.specs.Answer.{Answer, refuses, gives}
 use Rattle.rule.proofs.LeastOver.{least-unique}
+use Rattle.rule.proofs.Order.{first-unique}
 use Rattle.settings.proofs.Accepted.{countRange-ext}
 use Rattle.settings.specs.declared.CountRange.{CountRange}
 use Rattle.requests.proofs.ChosenIn.{in-slots}
+use Rattle.requests.proofs.SolutionKeeps.{solution-keeps}
 use Rattle.requests.specs.Promise.{Result, no-plan, planned, Outcome, Says, Held, Unaltered, Raised, Planned}
-use Rattle.requests.specs.Promise.{Answers, Keeps, Alike}
+use Rattle.requests.specs.Promise.{Answers, Keeps}
 use Rattle.requests.specs.Request.{Request, slots, at}
+use Rattle.requests.specs.Solution.{solution}
 use Rattle.requests.specs.declared.PlanCounts.{PlanCounts}
 
--- two outcomes with one answer are alike if neither alters anything
-unaltered : {r : Request} {o p : Outcome} → o .answer ≡ p .answer → Unaltered r o → Unaltered r p → Alike o p
-unaltered e u v = record { answer = e; lowest = u .lowest ∙ sym (v .lowest); highest = u .highest ∙ sym (v .highest) }
+outcome-ext : {o p : Outcome} → o .answer ≡ p .answer → o .lowest ≡ p .lowest → o .highest ≡ p .highest →
+    o .marks ≡ p .marks → o ≡ p
+outcome-ext a l h m = λ i. record { answer = a i; lowest = l i; highest = h i; marks = m i }
+
+-- two outcomes with one answer are the same if neither alters anything
+unaltered : {r : Request} {o p : Outcome} → o .answer ≡ p .answer → Unaltered r o → Unaltered r p → o ≡ p
+unaltered e u v =
+    outcome-ext e (u .lowest ∙ sym (v .lowest)) (u .highest ∙ sym (v .highest)) (u .marks ∙ sym (v .marks))
 
 module _ (r : Request) where
   raised-unique : (count : List ℕ → ℕ) (given w w′ : CountRange) → Raised r count given w →
@@ -56,24 +65,23 @@ module _ (r : Request) where
         let thrift = least-unique (a .thrift) (b .thrift) in
         λ i. record { windows = windows i; covered = covered i; thrift = thrift i }
 
-    both-planned : Alike o p
+    both-planned : o ≡ p
     both-planned =
-        record {
-          answer = e ∙ ap (λ n. gives (planned n)) same-counts ∙ sym f;
-          lowest = ext-getD (pos 0) _ _ (a .lowest-length ∙ sym (b .lowest-length))
-              (λ i bound.
-              let bound′ : i < slots r = omega (arith, bound, a .lowest-length) in
-              ≤ℤ-antisym (lower p o m n b a i bound′) (lower o p n m a b i bound′));
-          highest = ext-getD (pos 0) _ _ (a .highest-length ∙ sym (b .highest-length))
-              (λ i bound.
-              let bound′ : i < slots r = omega (arith, bound, a .highest-length) in
-              ≤ℤ-antisym (higher o p n m a b i bound′) (higher p o m n b a i bound′));
-        }
+        outcome-ext (e ∙ ap (λ n. gives (planned n)) same-counts ∙ sym f)
+        (ext-getD (pos 0) _ _ (a .lowest-length ∙ sym (b .lowest-length))
+        (λ i bound.
+        let bound′ : i < slots r = omega (arith, bound, a .lowest-length) in
+        ≤ℤ-antisym (lower p o m n b a i bound′) (lower o p n m a b i bound′)))
+        (ext-getD (pos 0) _ _ (a .highest-length ∙ sym (b .highest-length))
+        (λ i bound.
+        let bound′ : i < slots r = omega (arith, bound, a .highest-length) in
+        ≤ℤ-antisym (higher o p n m a b i bound′) (higher p o m n b a i bound′)))
+        (first-unique (a .first) (b .first))
 
-pub alike : (r : Request) (o p : Outcome) → Keeps r o → Keeps r p → Alike o p
-alike r o p kept kept′ = by (o .answer) (p .answer) refl refl kept kept′
+pub decided : (r : Request) (o p : Outcome) → Keeps r o → Keeps r p → o ≡ p
+decided r o p kept kept′ = by (o .answer) (p .answer) refl refl kept kept′
   where
-    by : (a b : Answer Result) → o .answer ≡ a → p .answer ≡ b → Answers r a o → Answers r b p → Alike o p
+    by : (a b : Answer Result) → o .answer ≡ a → p .answer ≡ b → Answers r a o → Answers r b p → o ≡ p
     by (refuses f) (refuses g) e d (x, u) (y, v) =
         unaltered (e ∙ ap refuses (Option·some-injective _ _ (sym x ∙ y)) ∙ sym d) u v
     by (refuses f) (gives no-plan) e d (x, u) (y, none, v) = absurd (Option·some-ne-none _ (sym x ∙ y))
@@ -88,3 +96,7 @@ alike r o p kept kept′ = by (o .answer) (p .answer) refl refl kept kept′
         let (ms, plan, _) = q .windows .least .met in
         absurd (none ms plan)
     by (gives (planned n)) (gives (planned m)) e d (x, q) (y, s) = both-planned r o p n m e d q s
+
+pub keeps-iff : (r : Request) (o : Outcome) → Keeps r o ↔ (o ≡ solution r)
+keeps-iff r o =
+    ((λ kept. decided r o (solution r) kept (solution-keeps r)), λ e. subst (Keeps r) (sym e) (solution-keeps r))
