@@ -4,7 +4,7 @@ ghost use Prim.Native.Nat.{_≤_, _<_};
 ghost use lib.ListN.{length};
 ghost use Rattle.rule.specs.Rule.{follows, goesWith, legal as Rule·legal, windows, covered};
 ghost use Rattle.settings.specs.Refusals.{limit};
-ghost use Rattle.rule.specs.ScanState.{advanced};
+ghost use Rattle.rule.specs.ScanState.{slotsAfter, bridgesAfter, advanced};
 ghost use Rattle.judge.specs.ScanStep.{stepOf, withMark};
 use rule::ScanState;
 use rule::Shape;
@@ -57,37 +57,43 @@ fn may_follow(previous: u8, mark: u8) -> bool
     }
 }
 
-// The scan state after a slot with this mark: the counts of a window start where it opens.
+// The slots of the window under way after a slot with this mark, from what they were before it.
+fn slots_after(slots: u16, mark: u8) -> u16
+    requires { ⌜ slots < limit ⌝ }
+    ensures { λ r. ⌜ r ≡ slotsAfter slots mark ⌝ }
+{
+    match mark {
+        0 => 0,
+        1 => 1,
+        2 => slots + 1,
+        3 => slots + 1,
+        4..=255 => 0,
+    }
+}
+
+// The same of its bridges.
+fn bridges_after(bridges: u16, mark: u8) -> u16
+    requires { ⌜ bridges < limit ⌝ }
+    ensures { λ r. ⌜ r ≡ bridgesAfter bridges mark ⌝ }
+{
+    match mark {
+        0 => 0,
+        1 => 0,
+        2 => bridges,
+        3 => bridges + 1,
+        4..=255 => 0,
+    }
+}
+
+// The scan state after a slot with this mark.
 fn advance(at: ScanState, mark: u8) -> ScanState
     requires { ⌜ (at .slots < limit) × (at .bridges < limit) ⌝ }
     ensures { λ r. ⌜ r ≡ advanced at mark ⌝ }
 {
-    match mark {
-        0 => ScanState {
-            mark,
-            slots: 0,
-            bridges: 0,
-        },
-        1 => ScanState {
-            mark,
-            slots: 1,
-            bridges: 0,
-        },
-        2 => ScanState {
-            mark,
-            slots: at.slots + 1,
-            bridges: at.bridges,
-        },
-        3 => ScanState {
-            mark,
-            slots: at.slots + 1,
-            bridges: at.bridges + 1,
-        },
-        4..=255 => ScanState {
-            mark,
-            slots: 0,
-            bridges: 0,
-        },
+    ScanState {
+        mark,
+        slots: slots_after(at.slots, mark),
+        bridges: bridges_after(at.bridges, mark),
     }
 }
 

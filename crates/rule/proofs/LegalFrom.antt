@@ -13,13 +13,9 @@ use lib.ListN.{length}
 use Rattle.rule.proofs.MarkKinds.{Kind, kind, uncovered, opening, later, bridge, above, above-3-follows-none}
 use Rattle.facts.proofs.Tests.{and-true→both}
 use Rattle.rule.specs.ScanState.{slotsAfter, bridgesAfter, advanced}
-use Rattle.rule.specs.Rule.{agrees, follows, ordered, rest, drawn, countIf, keeps, every, legalBy}
+use Rattle.rule.specs.Rule.{agrees, follows, ordered, rest, drawn, countIf, bridges, keeps, every, legalBy}
 use Rattle.rule.specs.declared.ScanState.{ScanState}
 use Rattle.rule.specs.declared.Shape.{Shape}
-
--- how many bridges a window holds
-abbrev bridges : List ℕ → ℕ
-bridges window = countIf (λ m. eqb m 3) window
 
 pub record Within (shape : Shape) (window : List ℕ) : Type 0 where
   pub slots : length window ≤ shape .len

@@ -58,9 +58,13 @@ unfoldable pub countIf : (ℕ → Bool) → List ℕ → ℕ
 countIf p [] = 0
 countIf p (m ∷ ms) = cond (p m) (suc (countIf p ms)) (countIf p ms)
 
+-- how many bridges there are among marks
+abbrev pub bridges : List ℕ → ℕ
+bridges marks = countIf (λ m. eqb m 3) marks
+
 -- a window keeps its shape: it has at most len slots and holds at most h bridges ("The rule, by source")
 unfoldable pub keeps : Shape → List ℕ → Bool
-keeps shape window = leb (length window) (shape .len) && leb (countIf (λ m. eqb m 3) window) (shape .h)
+keeps shape window = leb (length window) (shape .len) && leb (bridges window) (shape .h)
 
 unfoldable pub every : (List ℕ → Bool) → List (List ℕ) → Bool
 every p [] = true

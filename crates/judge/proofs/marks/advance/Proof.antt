@@ -1,31 +1,10 @@
--- `judge::marks::advance` meets its contract: an answer for each arm.
+-- `judge::marks::advance` meets its contract: each number is what its function gave.
 use borrow.Author.Needs.{needs}
-use Rattle.facts.proofs.Tests.{rules}
-use Rattle.rule.specs.ScanState
 use Rattle.judge.proofs.marks.advance.Statement.{statement}
 use Rattle.judge.proofs.marks.advance.Tie as tie
 
 returns : tie.Need-returns
-unfolding ScanState.slotsAfter ScanState.bridgesAfter
-returns c = rw (c .match .keys1)
-
-returns-2 : tie.Need-returns-2
-unfolding ScanState.slotsAfter ScanState.bridgesAfter
-returns-2 c = rw (c .match .keys2)
-
-returns-3 : tie.Need-returns-3
-unfolding ScanState.slotsAfter ScanState.bridgesAfter
-returns-3 c = rw (c .before .match .keys3)
-
-returns-4 : tie.Need-returns-4
-unfolding ScanState.slotsAfter ScanState.bridgesAfter
-returns-4 c = rw (c .before .before .match .keys4)
-
-returns-5 : tie.Need-returns-5
-unfolding ScanState.slotsAfter ScanState.bridgesAfter
-returns-5 c = search rules
+returns c = rw (c .before .slots-after .ensures, c .bridges-after .ensures)
 
 pub advance-spec : {M : Type 1} → statement M
-advance-spec =
-    tie.close (tie.spec (λ c. search needs) (λ c. search needs) (λ c. search needs) returns returns-2 returns-3
-    returns-4 returns-5)
+advance-spec = tie.close (tie.spec (λ c κs. search needs) (λ c κs. search needs) returns)
