@@ -3,16 +3,18 @@ use Prim.Native.Nat.{ℕ, _+_, _≤_, _<_}
 use native.Mathlib.Omega.{arith}
 use mathlib.Core.Bool.{true, false, not, _||_}
 use mathlib.Core.List.{List, []}
-use mathlib.Core.Path.{_≡_}
+use mathlib.Core.Path.{_≡_, refl}
 use lib.Dec.{eqb}
 use lib.IntN.{ℤ, pos}
-use lib.ListN.{length, drop, getD, drop-of-length-le}
+use lib.ListN.{length, take, drop, getD, drop-of-length-le, length-take}
 use Rattle.rule.proofs.LegalFrom.{WithinSoFar, Passes, LegalFrom, start, legal→from, from→legal, legalFrom-split}
 use Rattle.rule.proofs.LegalFrom.{legalFrom-join, from-nil→not-3, not-3→from-nil}
 use Rattle.facts.proofs.Tests.{bool-ext, false-of-not, cond-at-most}
 use Rattle.facts.proofs.Lists.{uncons}
+use Rattle.rule.proofs.BridgeCount.{running-step, running-le}
 use Rattle.judge.proofs.ScanStep.{Passes→not-broken, on→Passes}
-use Rattle.rule.specs.ScanState.{slotsAfter, bridgesAfter, advanced}
+use Rattle.rule.specs.ScanState.{slotsAfter, advanced}
+use Rattle.rule.specs.BridgeCount.{running}
 use Rattle.judge.specs.ScanStep.{stepOf}
 use Rattle.rule.specs.Rule.{over, carries, legal}
 use Rattle.rule.specs.declared.ScanState.{ScanState}
@@ -24,31 +26,31 @@ unfolding slotsAfter
 slotsAfter-le m bound =
     cond-at-most (eqb m 1) _ _ (omega arith) (cond-at-most (eqb m 2 || eqb m 3) _ _ (omega arith) (omega arith))
 
-bridgesAfter-le : (m : ℕ) {b i : ℕ} → b ≤ i → bridgesAfter b m ≤ i + 1
-unfolding bridgesAfter
-bridgesAfter-le m bound =
-    cond-at-most (eqb m 3) _ _ (omega arith) (cond-at-most (eqb m 2) _ _ (omega arith) (omega arith))
-
 module _ (k : ℤ) (shape : Shape) (xs : List ℤ) (ms : List ℕ) where
-  -- the scan stands before slot i: the plan is legal exactly when the slots that are left keep the rule from here on
+  -- the scan stands before slot i: its count of bridges is that of the marks so far (document 02, T-04), and the plan
+  -- is legal exactly when the slots that are left keep the rule from here on
   pub record LeftToScan (at : ScanState) (i : ℕ) : Type 0 where
     pub slots : at .slots ≤ i
-    pub bridges : at .bridges ≤ i
+    pub counted : at .bridges ≡ running 0 (take i ms)
     pub fits : WithinSoFar shape at
     pub to : legal k shape xs ms ≡ true → LegalFrom (carries k) shape at (drop i xs) (drop i ms)
     pub from : LegalFrom (carries k) shape at (drop i xs) (drop i ms) → legal k shape xs ms ≡ true
 
   pub scan-start : LeftToScan start 0
+  unfolding running
   scan-start =
       record {
         slots = omega arith;
-        bridges = omega arith;
+        counted = refl;
         fits = omega arith;
         to = legal→from (carries k) shape xs ms;
         from = from→legal (carries k) shape xs ms;
       }
 
   module _ (at : ScanState) (i : ℕ) (left : LeftToScan at i) where
+    pub scan-bridges-le : at .bridges ≤ i
+    scan-bridges-le = omega (arith, left .counted, running-le 0 (take i ms), length-take i ms)
+
     pub scan-end : length ms ≤ i → length xs ≡ length ms → not (eqb (at .mark) 3) ≡ legal k shape xs ms
     scan-end g e =
         let ex : drop i xs ≡ [] = drop-of-length-le xs {i = i} (omega arith) in
@@ -81,7 +83,7 @@ module _ (k : ℤ) (shape : Shape) (xs : List ℤ) (ms : List ℕ) where
           rw (← n)
           (record {
             slots = slotsAfter-le m (left .slots);
-            bridges = bridgesAfter-le m (left .bridges);
+            counted = rw (left .counted) (running-step 0 ms i hm);
             fits = p .fits;
             to = λ q. legal→split q .1;
             from =

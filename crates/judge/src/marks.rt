@@ -71,7 +71,7 @@ fn slots_after(slots: u16, mark: u8) -> u16
     }
 }
 
-// The same of its bridges.
+// The same of its bridges: a running count, set to 0 where a window opens (document 02, T-04).
 fn bridges_after(bridges: u16, mark: u8) -> u16
     requires { ⌜ bridges < limit ⌝ }
     ensures { λ r. ⌜ r ≡ bridgesAfter bridges mark ⌝ }

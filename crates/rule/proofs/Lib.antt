@@ -1,4 +1,5 @@
 pub mod MarkKinds
+pub mod BridgeCount
 pub mod Classes
 pub mod ClassCodes
 pub mod LeastOver

@@ -3,3 +3,4 @@ pub mod Rule
 pub mod Order
 pub mod Ranges
 pub mod ScanState
+pub mod BridgeCount

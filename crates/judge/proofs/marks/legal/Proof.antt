@@ -5,11 +5,13 @@ use native.Mathlib.Omega.{arith}
 use mathlib.Core.Path.{_≡_, sym, _∙_}
 use borrow.Author.Needs.{needs}
 use lib.IntN.{pos}
-use lib.ListN.{getD, length}
+use lib.ListN.{getD, length, take}
 use mir.Facts.{toZ-ofZ}
 use mir.Syntax.{w32}
 use mir.Val.{SFits}
-use Rattle.judge.proofs.LegalLoop.{LeftToScan, scan-start, scan-broken, scan-step, scan-end}
+use Rattle.rule.proofs.BridgeCount.{running-counts}
+use Rattle.judge.proofs.LegalLoop.{LeftToScan, scan-start, scan-bridges-le, scan-broken, scan-step, scan-end}
+use Rattle.rule.specs.BridgeCount.{BridgesSinceOpening}
 use Rattle.judge.specs.ScanStep.{stepOf}
 use Rattle.rule.specs.Rule.{over}
 use Rattle.judge.proofs.marks.legal.Statement.{statement}
@@ -21,6 +23,12 @@ Inv-loop settings loads marks at₀ i₀ at i =
 
 abbrev μ-loop : tie.MeasureT-loop
 μ-loop settings loads marks at₀ i₀ at i = length marks - i
+
+-- document 02, T-04, of the loop's own state: if the slots so far end in a window, its count is the number of marks 3
+-- since the window's mark 1
+count-in-window : (c : tie.At-loop Inv-loop μ-loop) →
+    BridgesSinceOpening (c .loop .at .bridges) (take (c .loop .i) (c .before .before .args .marks .now))
+count-in-window c = rw (c .loop .inv .1 .counted) (running-counts 0 _)
 
 loop-holds : tie.Need-loop-holds Inv-loop μ-loop
 loop-holds c = (omega arith, scan-start _ _ _ _)
@@ -38,7 +46,9 @@ shared-slice-read-scan-slot : tie.Need-shared-slice-read-scan-slot Inv-loop μ-l
 shared-slice-read-scan-slot c = search needs
 
 scan-slot-requires : tie.Need-scan-slot-requires Inv-loop μ-loop
-scan-slot-requires c κs = search needs
+scan-slot-requires c κs =
+    let loop = c .before .before .before .before .before .loop in
+    (omega arith, omega (arith, scan-bridges-le _ _ _ _ (loop .at) (loop .i) (loop .inv .1)))
 
 enum-known-next : tie.Need-enum-known-next Inv-loop μ-loop
 enum-known-next c = search needs
