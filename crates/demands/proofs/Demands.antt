@@ -36,7 +36,7 @@ use Rattle.published.specs.Published.{Sequence, size, sum, _⊆_, Obeys, Corner
 use Rattle.requests.proofs.Cases.{all-kept, thrift-rises}
 use Rattle.requests.proofs.Decided.{decided, keeps-iff}
 use Rattle.requests.proofs.Demand3.{demand3}
-use Rattle.requests.proofs.DrawnPlan.{drawnPlan-first}
+use Rattle.requests.proofs.DrawnPlan.{completed-first, drawnPlan-first}
 use Rattle.requests.proofs.PlansAreJudged.{plan-iff-yes}
 use Rattle.requests.proofs.LeastCounts.{counts-are-least}
 use Rattle.requests.proofs.Outcomes.{keeps→unaltered, keeps→refused}
@@ -82,9 +82,10 @@ use Rattle.settings.proofs.differ as Differ
 use Rattle.checks.proofs.check_request as CheckRequest
 use Rattle.rule.proofs.class_of as ClassOf
 use Rattle.least.proofs.least_counts as LeastCountsOf
-use Rattle.least.proofs.rows as Rows
+use Rattle.least.proofs.row_after as RowAfter
 use Rattle.drawing.proofs.classify as Classify
 use Rattle.drawing.proofs.draw as Draw
+use Rattle.drawing.proofs.complete as Complete
 use Rattle.form1.proofs.open as Open
 use Rattle.form1.proofs.range_at as RangeAt
 use Rattle.form1.proofs.put_range as PutRange
@@ -205,6 +206,7 @@ established =
       case-l = case-l;
       counts-are-least = counts-are-least;
       drawn = drawnPlan-first;
+      drawn-with-front = completed-first;
       thrift =
           λ r o f. delivers-thrift r (f .well) _
           (λ X yc zc S. corners (r .settings) X yc zc S .weightedSpringy) o (f .kept);
@@ -258,9 +260,10 @@ contracts =
       check-request = record { meets = CheckRequest.Met.met; total = λ M 𝓤 H A mem run κs a. (tt, λ g. refl) };
       class-of = record { meets = ClassOf.Met.met; total = λ M 𝓤 H A mem run κs a. (tt, λ g. refl) };
       least-counts = record { meets = LeastCountsOf.Met.met; total = λ M 𝓤 H A mem run κs a. (tt, λ g. refl) };
-      rows = record { meets = Rows.Met.met; total = λ M 𝓤 H A mem run κs a. (tt, λ g. refl) };
+      row-after = record { meets = RowAfter.Met.met; total = λ M 𝓤 H A mem run κs a. (tt, λ g. refl) };
       classify = record { meets = Classify.Met.met; total = λ M 𝓤 H A mem run κs a. (tt, λ g. refl) };
       draw = record { meets = Draw.Met.met; total = λ M 𝓤 H A mem run κs a. (tt, λ g. refl) };
+      complete = record { meets = Complete.Met.met; total = λ M 𝓤 H A mem run κs a. (tt, λ g. refl) };
       «open» = record { meets = Open.Met.met; total = λ M 𝓤 H A mem run κs a. (tt, λ g. refl) };
       range-at = record { meets = RangeAt.Met.met; total = λ M 𝓤 H A mem run κs a. (tt, λ g. refl) };
       put-range = record { meets = PutRange.Met.met; total = λ M 𝓤 H A mem run κs a. (tt, λ g. refl) };

@@ -18,7 +18,7 @@ use lib.IntN.{ℤ}
 use lib.ListN.{length}
 use mir.Syntax.{w32}
 use mir.Val.{SFits}
-use Rattle.rule.specs.Order.{First}
+use Rattle.rule.specs.Order.{Begins, First}
 use Rattle.rule.specs.Ranges.{ChosenIn, Class}
 use Rattle.rule.specs.declared.Range.{Range}
 use Rattle.rule.specs.declared.Shape.{Shape}
@@ -40,7 +40,7 @@ use Rattle.requests.specs.Demand3.{Demand3}
 use Rattle.requests.specs.Promise.{Outcome, Says, SaysPlanned, SaysNoPlan, Held, Unaltered, YesFor, Keeps}
 use Rattle.requests.specs.Request.{Request, slots, paired, ranges, at, filterRefusal, WellFormed, PlanOf}
 use Rattle.requests.specs.declared.PlanCounts.{PlanCounts}
-use Rattle.requests.specs.Solution.{sentinel, drawnPlan, FitsAt, CountsAreLeast, solution}
+use Rattle.requests.specs.Solution.{sentinel, completed, drawnPlan, FitsAt, CountsAreLeast, solution}
 use Rattle.watch.specs.Promise.{meaning, Steps, Runs, RunsFromReached, CountIsLeast, CaseL}
 use Rattle.watch.specs.Start.{starting}
 use Rattle.watch.specs.States.{startRefusal, LeadsTo, Reached}
@@ -92,9 +92,10 @@ use Rattle.settings.proofs.differ as Differ
 use Rattle.checks.proofs.check_request as CheckRequest
 use Rattle.rule.proofs.class_of as ClassOf
 use Rattle.least.proofs.least_counts as LeastCountsOf
-use Rattle.least.proofs.rows as Rows
+use Rattle.least.proofs.row_after as RowAfter
 use Rattle.drawing.proofs.classify as Classify
 use Rattle.drawing.proofs.draw as Draw
+use Rattle.drawing.proofs.complete as Complete
 use Rattle.form1.proofs.open as Open
 use Rattle.form1.proofs.range_at as RangeAt
 use Rattle.form1.proofs.put_range as PutRange
@@ -271,9 +272,13 @@ pub record Established : Type 0 where
   -- the computed least counts and thrift are the true ones for every number of slots; also what the least counts are
   -- for unchecked settings
   pub counts-are-least : (s : Settings) (cs : List Class) → CountsAreLeast s cs
-  -- what is drawn is the first plan, if there is one, also for unchecked settings
+  -- what is drawn is the first plan, if there is one, also for unchecked settings; so is what is drawn for a front, of
+  -- the plans that begin with it
   pub drawn : (s : Settings) (cs : List Class) → s .covered .most < sentinel → (ms : List ℕ) → FitsAt s cs ms →
       First (FitsAt s cs) (drawnPlan s cs)
+  pub drawn-with-front : (s : Settings) (cs : List Class) (front : List ℕ) → s .covered .most < sentinel →
+      (ms : List ℕ) → FitsAt s cs ms → Begins front ms →
+      First (λ ks. FitsAt s cs ks × Begins front ks) (completed s cs front)
   -- the thrift handed back, measured by WeightedSpringyFOCUS; that loosening may raise it
   pub thrift : (r : Request) (o : Outcome) → Filtered r o → (n : PlanCounts) → Says o n → let s = r .settings in
       TrueThrift r (λ X yc zc S. WeightedSpringyFocus X yc (s .shape .len) (s .shape .h) (s .k) zc S) (n .thrift)
@@ -340,9 +345,10 @@ pub record Contracts : Type 2 where
   pub check-request : Operation CheckRequest.Statement.statement CheckRequest.signature (λ M 𝓤. CheckRequest.spec 𝓤)
   pub class-of : Operation ClassOf.Statement.statement ClassOf.signature (λ M 𝓤. ClassOf.spec 𝓤)
   pub least-counts : Operation LeastCountsOf.Statement.statement LeastCountsOf.signature (λ M 𝓤. LeastCountsOf.spec 𝓤)
-  pub rows : Operation Rows.Statement.statement Rows.signature (λ M 𝓤. Rows.spec 𝓤)
+  pub row-after : Operation RowAfter.Statement.statement RowAfter.signature (λ M 𝓤. RowAfter.spec 𝓤)
   pub classify : Operation Classify.Statement.statement Classify.signature (λ M 𝓤. Classify.spec 𝓤)
   pub draw : Operation Draw.Statement.statement Draw.signature (λ M 𝓤. Draw.spec 𝓤)
+  pub complete : Operation Complete.Statement.statement Complete.signature (λ M 𝓤. Complete.spec 𝓤)
   pub «open» : Operation Open.Statement.statement Open.signature (λ M 𝓤. Open.spec 𝓤)
   pub range-at : Operation RangeAt.Statement.statement RangeAt.signature (λ M 𝓤. RangeAt.spec 𝓤)
   pub put-range : Operation PutRange.Statement.statement PutRange.signature (λ M 𝓤. PutRange.spec 𝓤)

@@ -1,3 +1,4 @@
-pub mod Codes
+mod Codes
+pub mod OfRequest
 mod ClassifyLoop
-mod DrawLoop
+mod CompleteLoop

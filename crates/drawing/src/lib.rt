@@ -1,17 +1,17 @@
-// The first plan, drawn from the first slot on, for slots that are given by what each can be; and the
-// bytes that say so of a request's slots.
+// The first plan that begins with given marks, drawn from the first slot on, for slots that are given by what
+// each can be; and the bytes that say so of a request's slots.
 ghost use mathlib.Core.Path.{_≡_};
-ghost use Prim.Native.Nat.{_+_, _<_, min};
-ghost use lib.ListN.{length, take};
+ghost use Prim.Native.Nat.{_+_, min};
+ghost use lib.ListN.{length, take, getD};
 ghost use lib.Seq.{sets};
 ghost use Rattle.settings.specs.Refusals.{limit, places};
 ghost use Rattle.rule.specs.ClassCodes.{decodeAll};
 ghost use Rattle.least.specs.Rows.{RowAfter};
-ghost use Rattle.requests.specs.Solution.{drawnPlan};
+ghost use Rattle.requests.specs.Solution.{completed, drawnPlan};
 use crate::marks::close_window;
 use crate::marks::left_of;
 use crate::marks::next_mark;
-use least::rows;
+use least::row_after;
 use settings::LIMIT;
 use settings::PLACES;
 use settings::Settings;
@@ -37,24 +37,42 @@ fn common_slots(a: usize, b: usize) -> usize
     smaller(LIMIT, smaller(a, b))
 }
 
-// The row to draw by: a new one where a window has been opened.
+// The row to draw by after a slot with this mark: a new one where its window begins, or has no row yet since
+// the front has it begin with another mark than 1. `before` is the mark before it.
 fn row_for(
     settings: Settings,
     classes: &[u8],
+    before: u8,
     mark: u8,
     windows: u16,
     row: [u16; PLACES],
 ) -> [u16; PLACES]
-    requires { ⌜ (mark ≡ 1 → windows < 65535) × (length row ≡ places) ⌝ }
+    requires { ⌜ length row ≡ places ⌝ }
     ensures { λ r. ⌜ (length r ≡ places)
-        × (mark ≡ 1 → RowAfter settings (decodeAll (take limit (now (classes .entry)))) (windows + 1) r)
-        × ((mark ≡ 1 → ⊥) → r ≡ row) ⌝ }
+        × ((mark ≡ 0 → ⊥)
+        → ((before ≡ 0 → ⊥) → (mark ≡ 1 → ⊥)
+        → RowAfter settings (decodeAll (take limit (now (classes .entry)))) (windows + 1) row)
+        → RowAfter settings (decodeAll (take limit (now (classes .entry)))) (windows + 1) r) ⌝ }
 {
-    if mark != 1 {
+    if mark == 0 {
         return row;
     }
-    let filled = rows(settings, classes, windows + 1);
-    filled.after
+    if before != 0 {
+        if mark != 1 {
+            return row;
+        }
+    }
+    row_after(settings, classes, windows)
+}
+
+// The mark of slot i: that of the front, or where it has ended, the one that is drawn.
+fn mark_at(front: &[u8], i: usize, drawn: u8) -> u8
+    ensures { λ r. ⌜ r ≡ getD (now (front .entry)) i drawn ⌝ }
+{
+    if i < front.len() {
+        return front[i];
+    }
+    drawn
 }
 
 // Draws the first LIMIT slots into as many of the first marks (`drawnPlan`): the first plan within both
@@ -64,6 +82,14 @@ pub fn draw(settings: Settings, classes: &[u8], marks: &mut [u8])
     ensures { λ _. ⌜ now (marks .exit)
         ≡ sets (now (marks .entry)) 0 (drawnPlan settings (decodeAll (take limit (now (classes .entry))))) ⌝ }
 {
+    complete(settings, classes, &classes[..0], marks);
+}
+
+// Draws the first plan that begins with the front, on the same terms (`completed`).
+pub fn complete(settings: Settings, classes: &[u8], front: &[u8], marks: &mut [u8])
+    ensures { λ _. ⌜ now (marks .exit) ≡ sets (now (marks .entry)) 0
+        (completed settings (decodeAll (take limit (now (classes .entry)))) (now (front .entry))) ⌝ }
+{
     let n = common_slots(classes.len(), marks.len());
     let mut mark = 0;
     let mut windows = settings.windows.most;
@@ -71,11 +97,12 @@ pub fn draw(settings: Settings, classes: &[u8], marks: &mut [u8])
     let mut row = [0; PLACES];
     let mut i = 0;
     while i < n {
-        let closed = close_window(mark, covered, row[i]);
-        mark = next_mark(closed, classes[i]);
+        let before = mark;
+        let closed = close_window(before, covered, row[i]);
+        mark = mark_at(front, i, next_mark(closed, classes[i]));
         windows = left_of(windows, mark == 1);
         covered = left_of(covered, mark != 0);
-        row = row_for(settings, classes, mark, windows, row);
+        row = row_for(settings, classes, before, mark, windows, row);
         marks[i] = mark;
         i += 1;
     }

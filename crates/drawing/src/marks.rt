@@ -1,7 +1,5 @@
 // The next mark of a plan that is drawn from the first slot on, and what is left after it.
-ghost use mathlib.Core.Bool.{true};
 ghost use mathlib.Core.Path.{_≡_};
-ghost use Prim.Native.Nat.{_<_};
 ghost use Rattle.rule.specs.ClassCodes.{decode};
 ghost use Rattle.requests.specs.Drawing.{closedMark, nextMark, leftOf};
 use rule::OVER;
@@ -38,9 +36,9 @@ pub(crate) fn next_mark(mark: u8, class: u8) -> u8
     3
 }
 
-// What is left of n after a slot that may have used one. If it did, one more fits the type again.
+// What is left of n after a slot that may have used one.
 pub(crate) fn left_of(n: u16, used: bool) -> u16
-    ensures { λ r. ⌜ (r ≡ leftOf n used) × (used ≡ true → r < 65535) ⌝ }
+    ensures { λ r. ⌜ r ≡ leftOf n used ⌝ }
 {
     if n == 0 {
         return 0;

@@ -1,4 +1,5 @@
--- Facts about lists that the library lacks: one element taken off, mapped or written, and one list stored in another.
+-- Facts about lists that the library lacks: one element taken off, read, mapped or written, and one list stored in
+-- another.
 use Prim.Native.Nat.{ℕ, zero, suc, _+_, _≤_, _<_, min}
 use native.Mathlib.Nat.{zero-add, add-zero, eq-or-lt-of-le}
 use native.Mathlib.Numerals.{add-one}
@@ -14,6 +15,12 @@ use lib.Seq.{drop-cons, getD-set-same, getD-set-other, set-out, sets, sets-eq}
 
 pub uncons : {A : Type 0} (l : List A) (i : ℕ) (d : A) → i < length l → drop i l ≡ getD l i d ∷ drop (i + 1) l
 uncons l i d bound = rw add-one (drop-cons l i d bound)
+
+-- what stands at a place of the list is the same whatever else would be given
+pub getD-any : {A : Type 0} (l : List A) (i : ℕ) (d e : A) → i < length l → getD l i d ≡ getD l i e
+getD-any [] i d e bound = absurd (omega arith)
+getD-any (x ∷ xs) zero d e bound = refl
+getD-any (x ∷ xs) (suc i) d e bound = getD-any xs i d e (omega arith)
 
 pub map-set : {A B : Type 0} (f : A → B) (l : List A) (i : ℕ) (y : A) → map f (set l i y) ≡ set (map f l) i (f y)
 map-set f [] i y = refl

@@ -1,28 +1,20 @@
 -- The filter's answers keep its promise: what the called functions gave, taken together.
 use Prim.Native.Nat.{ℕ, _≤_, _<_}
-use native.Mathlib.Omega.{arith}
 use mathlib.Core.Bool.{true, false}
-use mathlib.Core.List.{List}
-use mathlib.Core.Path.{_≡_, sym, ap, _∙_}
+use mathlib.Core.List.{List, []}
+use mathlib.Core.Path.{_≡_}
 use borrow.Author.Tests.{le-leb, lt-leb}
 use lib.IntN.{ℤ}
-use lib.ListN.{length, take}
-use lib.Seq.{length-take-le, sets}
-use Rattle.drawing.proofs.Codes.{codes-wide, codes-decoded}
-use Rattle.drawing.specs.Codes.{codesOf}
-use Rattle.facts.proofs.Lists.{sets-all}
+use lib.Seq.{sets}
+use Rattle.drawing.proofs.OfRequest.{all-drawn}
 use Rattle.refusals.specs.Answer.{gives}
-use Rattle.rule.specs.ClassCodes.{decodeAll}
 use Rattle.rule.specs.Ranges.{Class}
-use Rattle.settings.specs.Refusals.{limit}
 use Rattle.settings.specs.declared.CountRange.{CountRange}
 use Rattle.settings.specs.declared.Settings.{Settings}
 use Rattle.requests.proofs.SolutionKeeps.{solution-keeps}
-use Rattle.requests.proofs.DrawnPlan.{drawnFrom-length}
-use Rattle.requests.proofs.Formed.{formed-iff, class-slots}
 use Rattle.requests.specs.Promise.{no-plan, planned, Keeps}
-use Rattle.requests.specs.Request.{Request, slots, WellFormed}
-use Rattle.requests.specs.Solution.{sentinel, classes, drawnPlan, possible, lowestLeft, highestLeft, raised}
+use Rattle.requests.specs.Request.{Request, WellFormed}
+use Rattle.requests.specs.Solution.{classes, drawnPlan, possible, lowestLeft, highestLeft, raised}
 use Rattle.requests.specs.Solution.{plannedOutcome, unalteredOutcome, solution}
 use Rattle.least.specs.Counts.{Counted}
 use Rattle.least.specs.declared.LeastCounts.{LeastCounts}
@@ -30,32 +22,6 @@ use Rattle.least.specs.declared.LeastCounts.{LeastCounts}
 module _ (r : Request) (well : WellFormed r) where
   abbrev s : Settings
   s = r .settings
-
-  short : slots r ≤ limit
-  short = formed-iff .0 well .pass .slots .1
-
-  -- the bytes that `classify` gave, of which `draw` and `narrow` are lent as many as there are slots
-  module _ (codes : List ℕ) (is : codes ≡ codesOf (classes r)) where
-    pub wide : length codes ≡ limit
-    wide = ap length is ∙ codes-wide (classes r)
-
-    pub whole : length (take (slots r) codes) ≡ slots r
-    whole = length-take-le (slots r) codes (omega (arith, short, wide))
-
-    pub whole-short : length (take (slots r) codes) ≤ limit
-    whole-short = omega (arith, whole, short)
-
-    pub by-codes : decodeAll (take (slots r) codes) ≡ classes r
-    by-codes =
-        let n = class-slots r (formed-iff .0 well) in
-        rw (is, ← n) (codes-decoded (classes r) (omega (arith, n, short)))
-
-  -- there are as many marks as slots, so that what is drawn is all that they hold
-  all-drawn : sets (r .marks) 0 (drawnPlan s (classes r)) ≡ drawnPlan s (classes r)
-  all-drawn =
-      let good = formed-iff .0 well in
-      let drawn = drawnFrom-length sentinel (s .shape) (classes r) 0 (s .windows .most) (s .covered .most) in
-      sets-all (drawnPlan s (classes r)) (r .marks) (drawn ∙ class-slots r good ∙ sym (good .marked))
 
   module _ (cs : List Class) (by : cs ≡ classes r) (least : LeastCounts) (counted : Counted s cs least) where
     pub no-plan-kept : s .covered .most < least .covered → Keeps r (unalteredOutcome r (gives no-plan))
@@ -82,4 +48,4 @@ module _ (r : Request) (well : WellFormed r) where
       plan-kept ms w c (low, high) =
           let (few, thrifty, short) = counted in
           let kept : Keeps r (plannedOutcome r) = rw (well, rw by at some-plan) at (solution-keeps r) in
-          rw (ms, w, c, low, high, few, thrifty, short, by, all-drawn) kept
+          rw (ms, w, c, low, high, few, thrifty, short, by, all-drawn r well []) kept

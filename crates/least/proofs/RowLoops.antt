@@ -96,7 +96,7 @@ module _ (s : Settings) (classes : List ℕ) where
     row-end e f w b = record { wide = f .wide; counts = λ j l. f .counts w b j (omega arith) l }
 
   -- the row for w windows is what comes after a window where w + 1 windows are left, this one included
-  row→after : {row : List ℕ} {w : ℕ} → Row s cs w row → RowAfter s cs (w + 1) row
+  pub row→after : {row : List ℕ} {w : ℕ} → Row s cs w row → RowAfter s cs (w + 1) row
   row→after r = rw add-one (record { wide = r .wide; counts = r .counts })
 
   abbrev c : ℕ

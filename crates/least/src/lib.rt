@@ -36,10 +36,10 @@ pub struct UnderWay {
 // window count below w with which the covered maximum is kept, or w; a maximum of NO_PLAN is always kept.
 // `thrift` is the least covered count with that many windows, or with w - 1 where `first` is w; where w is 0 it
 // is NO_PLAN.
-pub struct Filled {
-    pub after: [u16; PLACES],
-    pub first: u16,
-    pub thrift: u16,
+struct Filled {
+    after: [u16; PLACES],
+    first: u16,
+    thrift: u16,
 }
 
 // Least counts (`CountsAreLeast` in crates/requests/specs/Solution.antt). `covered` is the least
@@ -210,6 +210,16 @@ fn fill_rows(settings: Settings, classes: &[u8], w: u16) -> Filled
     }
 }
 
+// The row for w windows, which is what comes after a window where they are left.
+fn last_row(settings: Settings, classes: &[u8], w: u16) -> [u16; PLACES]
+    requires { ⌜ length (now classes) ≤ limit ⌝ }
+    ensures { λ r. ⌜ RowAfter settings (decodeAll (now (classes .entry))) (w + 1) r ⌝ }
+{
+    let filled = fill_rows(settings, classes, w);
+    let after = filled.after;
+    next_row(settings, classes, &after)
+}
+
 // The least counts, read off the rows.
 fn counts_of_rows(settings: Settings, classes: &[u8]) -> LeastCounts
     requires { ⌜ length (now classes) ≤ limit ⌝ }
@@ -237,15 +247,14 @@ fn at_most_limit(n: usize) -> usize
     n
 }
 
-// What comes after a window, in the first LIMIT slots, as `Filled` says. The settings are not
+// What comes after a window, where at most w windows are left after it: at the place of each of the first LIMIT
+// slots the least covered count of the slots from there on, or NO_PLAN, and 0 at every later place. The settings are not
 // checked: a len of 0 counts as 1.
-pub fn rows(settings: Settings, classes: &[u8], w: u16) -> Filled
-    ensures { λ r. ⌜ RowAfter settings (decodeAll (take limit (now (classes .entry)))) w (r .after)
-        × (r .first ≡ firstBelow settings (decodeAll (take limit (now (classes .entry)))) w)
-        × (r .thrift ≡ thriftBelow settings (decodeAll (take limit (now (classes .entry)))) w) ⌝ }
+pub fn row_after(settings: Settings, classes: &[u8], w: u16) -> [u16; PLACES]
+    ensures { λ r. ⌜ RowAfter settings (decodeAll (take limit (now (classes .entry)))) (w + 1) r ⌝ }
 {
     let n = at_most_limit(classes.len());
-    fill_rows(settings, &classes[..n], w)
+    last_row(settings, &classes[..n], w)
 }
 
 // The least counts of the first LIMIT slots, as `LeastCounts` says. The settings are not checked:

@@ -1,10 +1,11 @@
--- What is drawn is the first plan within what is left, if there is one.
+-- What is drawn is the first plan within what is left that begins with the front, if there is one.
 use Prim.Native.Nat.{ℕ, zero, suc, _-_, _≤_, _<_}
+use native.Mathlib.Nat.{le-trans}
 use native.Mathlib.Omega.{arith}
 use mathlib.Core.Bool.{Bool, true, false, true≢false, false≢true, cond, not}
-use mathlib.Core.List.{List, [], _∷_}
+use mathlib.Core.List.{List, [], _∷_, _++_}
 use mathlib.Core.Logic.{_⊎_, inl, inr}
-use mathlib.Core.Path.{_≡_, refl, sym, ap, _∙_}
+use mathlib.Core.Path.{_≡_, refl, sym, ap, _∙_, subst}
 use borrow.Author.Tests.{ltb-true, ltb-false}
 use lib.Dec.{eqb, ltb}
 use lib.ListN.{length}
@@ -13,23 +14,34 @@ use Rattle.facts.proofs.Tests.{cond-cases}
 use Rattle.rule.proofs.Classes.{not-allows-0→allows-1, not-allows-2→allows-3}
 use Rattle.rule.proofs.Order.{first-congr, level-or-same}
 use Rattle.rule.proofs.Plan.{State, out, on, PlanBy, done, skip, opens, close, more, bridges, legal→plan, plan→legal}
-use Rattle.rule.specs.Order.{_≺_, smaller, First}
+use Rattle.rule.proofs.Plan.{afterMark, plan-tail, plan-with-tail}
+use Rattle.rule.specs.Order.{_≺_, smaller, Begins, First}
 use Rattle.rule.specs.Ranges.{Class, allows}
 use Rattle.rule.specs.Rule.{countIf, windows, covered}
 use Rattle.rule.specs.declared.Shape.{Shape}
 use Rattle.settings.specs.declared.Settings.{Settings}
 use Rattle.requests.proofs.BestIsLeast.{least, least-le-covered}
-use Rattle.requests.proofs.LeastCounts.{exists→enough}
 use Rattle.requests.specs.Best.{usingOne, saturatingSuc, best, bestInside, bestClosable}
 use Rattle.requests.specs.Drawing.{closedMark, nextMark, leftOf, drawnFrom}
-use Rattle.requests.specs.Solution.{sentinel, drawnPlan, FitsAt}
+use Rattle.requests.specs.Solution.{sentinel, completed, drawnPlan, FitsAt}
 
--- outside a window none closes, and a slot is uncovered or opens one
+-- outside a window none closes
 pub closed-outside : (c needed : ℕ) → closedMark 0 c needed ≡ 0
 closed-outside c needed = cond-cases (λ m. m ≡ 0) (ltb c needed) refl refl
 
-pub next-outside : (x : Class) → (nextMark 0 x ≡ 0 → ⊥) → nextMark 0 x ≡ 1
-next-outside x = cond-cases (λ m. (m ≡ 0 → ⊥) → m ≡ 1) (allows x 0) (λ covered. absurd (covered refl)) (λ _. refl)
+-- a count k fits what a slot leaves of n exactly when, with the slot, it fits n; that n has what the slot uses is known
+-- from another count j
+leftOf-fits : (used : Bool) (n k : ℕ) → cond used (suc k) k ≤ n → k ≤ leftOf n used
+leftOf-fits true n k e = omega arith
+leftOf-fits false n k e = e
+
+fits-leftOf : (used : Bool) (n k j : ℕ) → cond used (suc j) j ≤ n → k ≤ leftOf n used → cond used (suc k) k ≤ n
+fits-leftOf true n k j e f = omega arith
+fits-leftOf false n k j e f = f
+
+leftOf-le : (used : Bool) (n : ℕ) → leftOf n used ≤ n
+leftOf-le true n = omega arith
+leftOf-le false n = omega arith
 
 -- the states that a mark leads to, 0 standing for the start too
 data After : (m : ℕ) → State → Type 0 where
@@ -161,19 +173,20 @@ module _ (shape : Shape) where
 
 module _ (T : ℕ) (shape : Shape) where
   -- each slot gets a mark
-  pub drawnFrom-length : (cs : List Class) (m w c : ℕ) → length (drawnFrom T shape cs m w c) ≡ length cs
+  pub drawnFrom-length : (cs : List Class) (front : List ℕ) (m w c : ℕ) →
+      length (drawnFrom T shape cs front m w c) ≡ length cs
   unfolding drawnFrom
-  drawnFrom-length [] m w c = refl
-  drawnFrom-length (x ∷ cs) m w c = ap suc (drawnFrom-length cs _ _ _)
+  drawnFrom-length [] front m w c = refl
+  drawnFrom-length (x ∷ cs) front m w c = ap suc (drawnFrom-length cs _ _ _ _)
 
   -- the marks from a slot of class x on, with its own mark given
   abbrev fromMark : List Class → (next w c : ℕ) → List ℕ
-  fromMark cs next w c = next ∷ drawnFrom T shape cs next (leftOf w (eqb next 1)) (leftOf c (not (eqb next 0)))
+  fromMark cs next w c = next ∷ drawnFrom T shape cs [] next (leftOf w (eqb next 1)) (leftOf c (not (eqb next 0)))
 
   abbrev Draws : List Class → Type 0
   Draws cs =
       (m : ℕ) (st : State) → After m st → (w c : ℕ) → least T shape st cs w ≤ c → c < T →
-      FirstFrom shape st cs w c (drawnFrom T shape cs m w c)
+      FirstFrom shape st cs w c (drawnFrom T shape cs [] m w c)
 
   module _ (x : Class) (cs : List Class) (later : Draws cs) where
     draws-outside : (w c : ℕ) → best T shape (x ∷ cs) w ≤ c → c < T →
@@ -248,11 +261,94 @@ module _ (T : ℕ) (shape : Shape) where
   draws [] m st bridge w c e below = absurd (omega arith)
   draws (x ∷ cs) m st a w c e below = draws-more x cs (draws cs) m st a w c e below
 
+  -- the state after a slot with mark f
+  abbrev next : State → (f : ℕ) → State
+  next = afterMark 0 (shape .len - 1) (shape .h)
+
+  after-mark : {m f : ℕ} {st : State} {x : Class} {cs : List Class} {ms : List ℕ} → After m st →
+      PlanBy allows shape st (x ∷ cs) (f ∷ ms) → After f (next st f)
+  after-mark outside (skip a p) = outside
+  after-mark outside (opens a p) = first-slot
+  after-mark first-slot (close (skip a p)) = outside
+  after-mark first-slot (close (opens a p)) = first-slot
+  after-mark first-slot (more a p) = over-slot
+  after-mark first-slot (bridges a p) = bridge
+  after-mark over-slot (close (skip a p)) = outside
+  after-mark over-slot (close (opens a p)) = first-slot
+  after-mark over-slot (more a p) = over-slot
+  after-mark over-slot (bridges a p) = bridge
+  after-mark bridge (more a p) = over-slot
+  after-mark bridge (bridges a p) = bridge
+
+  no-slot : {st : State} {f : ℕ} {ms : List ℕ} → PlanBy allows shape st [] (f ∷ ms) → ⊥
+  no-slot (close p) = no-slot p
+
+  -- the first plan that begins with a front, by recursion on the front
+  abbrev FirstWith : (front : List ℕ) → State → List Class → (w c : ℕ) → List ℕ → Type 0
+  FirstWith front st cs w c = First (λ ms. PlanWithin shape st cs w c ms × Begins front ms)
+
+  module _ (x : Class) (cs : List Class) (f : ℕ) (st : State) (w c : ℕ) (ms : List ℕ)
+      (plan : PlanWithin shape st (x ∷ cs) w c (f ∷ ms)) where
+    abbrev Later : List ℕ → Type 0
+    Later = PlanWithin shape (next st f) cs (leftOf w (eqb f 1)) (leftOf c (not (eqb f 0)))
+
+    later-slots : (ks : List ℕ) → PlanWithin shape st (x ∷ cs) w c (f ∷ ks) → Later ks
+    unfolding windows covered countIf
+    later-slots ks p =
+        record {
+          plan = plan-tail _ _ _ _ (p .plan);
+          few = leftOf-fits (eqb f 1) w (windows ks) (p .few);
+          short = leftOf-fits (not (eqb f 0)) c (covered ks) (p .short);
+        }
+
+    with-mark : (ks : List ℕ) → Later ks → PlanWithin shape st (x ∷ cs) w c (f ∷ ks)
+    unfolding windows covered countIf
+    with-mark ks l =
+        record {
+          plan = plan-with-tail _ _ _ _ (plan .plan) (l .plan);
+          few = fits-leftOf (eqb f 1) w (windows ks) (windows ms) (plan .few) (l .few);
+          short = fits-leftOf (not (eqb f 0)) c (covered ks) (covered ms) (plan .short) (l .short);
+        }
+
+    one-more : (front ks : List ℕ) → First (λ ks. Later ks × Begins front ks) ks →
+        FirstWith (f ∷ front) st (x ∷ cs) w c (f ∷ ks)
+    one-more front ks l =
+        let (later, (rest, e)) = l .holds in
+        record {
+          holds = (with-mark ks later, (rest, ap (λ ms. f ∷ ms) e));
+          first = λ js (p, (rest, e)). rw e
+              (level-or-same f (l .first (front ++ rest) (later-slots (front ++ rest) (rw e at p), (rest, refl))));
+        }
+
+  completes : (front rest : List ℕ) (cs : List Class) (m : ℕ) (st : State) (w c : ℕ) → After m st → c < T →
+      PlanWithin shape st cs w c (front ++ rest) → FirstWith front st cs w c (drawnFrom T shape cs front m w c)
+  unfolding drawnFrom
+  completes [] rest cs m st w c a below p =
+      first-congr (λ ks q. (q, (ks, refl))) (λ ks q. q .0)
+      (draws cs m st a w c (le-trans (least-le-covered T shape w (p .plan) (p .few)) (p .short)) below)
+  completes (f ∷ front) rest [] m st w c a below p = absurd (no-slot (p .plan))
+  completes (f ∷ front) rest (x ∷ cs) m st w c a below p =
+      one-more x cs f st w c (front ++ rest) p front _
+      (completes front rest cs f (next st f) (leftOf w (eqb f 1)) (leftOf c (not (eqb f 0)))
+      (after-mark a (p .plan)) (omega (arith, below, leftOf-le (not (eqb f 0)) c))
+      (later-slots x cs f st w c (front ++ rest) p (front ++ rest) p))
+
 -- within both maximums, for all settings with a covered maximum below the sentinel
+pub completed-first : (s : Settings) (cs : List Class) (front : List ℕ) → s .covered .most < sentinel →
+    (ms : List ℕ) → FitsAt s cs ms → Begins front ms →
+    First (λ ks. FitsAt s cs ks × Begins front ks) (completed s cs front)
+completed-first s cs front below ms some (rest, e) =
+    first-congr
+    (λ ks (p, b). (record { in-rule = plan→legal allows (s .shape) cs ks (p .plan); few = p .few; short = p .short }, b))
+    (λ ks (f, b). (to-plan ks f, b))
+    (completes sentinel (s .shape) front rest cs 0 (out 0) _ _ outside below
+    (subst (PlanWithin (s .shape) (out 0) cs (s .windows .most) (s .covered .most)) e (to-plan ms some)))
+  where
+    to-plan : (ks : List ℕ) → FitsAt s cs ks →
+        PlanWithin (s .shape) (out 0) cs (s .windows .most) (s .covered .most) ks
+    to-plan ks f = record { plan = legal→plan allows (s .shape) cs ks (f .in-rule); few = f .few; short = f .short }
+
 pub drawnPlan-first : (s : Settings) (cs : List Class) → s .covered .most < sentinel → (ms : List ℕ) → FitsAt s cs ms →
     First (FitsAt s cs) (drawnPlan s cs)
 drawnPlan-first s cs below ms some =
-    first-congr
-    (λ ks p. record { in-rule = plan→legal allows (s .shape) cs ks (p .plan); few = p .few; short = p .short })
-    (λ ks f. record { plan = legal→plan allows (s .shape) cs ks (f .in-rule); few = f .few; short = f .short })
-    (draws sentinel (s .shape) cs 0 (out 0) outside _ _ (exists→enough sentinel (s .shape) cs _ _ some) below)
+    first-congr (λ ks f. f .0) (λ ks f. (f, (ks, refl))) (completed-first s cs [] below ms some (ms, refl))

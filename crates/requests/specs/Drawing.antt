@@ -1,5 +1,6 @@
--- The plan that is drawn from the first slot on, by recursion on the slots. The crate `drawing` promises to draw it;
--- the filter's promise does not rest on it. It is the first plan (proofs/DrawnPlan.antt).
+-- The plan that is drawn from the first slot on, by recursion on the slots, its first marks being given as a front. The
+-- crate `drawing` promises to draw it; the filter's promise does not rest on it. It is the first plan that begins with
+-- the front (proofs/DrawnPlan.antt).
 --
 -- Outside a window only a slot that must be over opens one; a window closes as soon as the slots after it can do with
 -- what is left of both maximums. The slots and bridges left to a window need not be known, since `best` counts only
@@ -8,6 +9,7 @@ use Prim.Native.Nat.{ℕ, _-_}
 use mathlib.Core.Bool.{Bool, cond, not, _||_}
 use mathlib.Core.List.{List, [], _∷_}
 use lib.Dec.{eqb, ltb}
+use lib.ListN.{drop, getD}
 use Rattle.rule.specs.Ranges.{Class, allows}
 use Rattle.rule.specs.declared.Shape.{Shape}
 use Rattle.requests.specs.Best.{bestAfter}
@@ -27,9 +29,10 @@ abbrev pub leftOf : (n : ℕ) (used : Bool) → ℕ
 leftOf n used = cond used (n - 1) n
 
 module _ (T : ℕ) (shape : Shape) where
-  -- the marks of the slots after a mark m, with w windows and c covered slots left to them
-  unfoldable pub drawnFrom : List Class → (m w c : ℕ) → List ℕ
-  drawnFrom [] m w c = []
-  drawnFrom (x ∷ cs) m w c =
-      let next = nextMark (closedMark m c (bestAfter T shape (x ∷ cs) w)) x in
-      next ∷ drawnFrom cs next (leftOf w (eqb next 1)) (leftOf c (not (eqb next 0)))
+  -- the marks of the slots after a mark m, with w windows and c covered slots left to them: those of the front, and where
+  -- it has ended, the next mark
+  unfoldable pub drawnFrom : List Class → (front : List ℕ) (m w c : ℕ) → List ℕ
+  drawnFrom [] front m w c = []
+  drawnFrom (x ∷ cs) front m w c =
+      let next = getD front 0 (nextMark (closedMark m c (bestAfter T shape (x ∷ cs) w)) x) in
+      next ∷ drawnFrom cs (drop 1 front) next (leftOf w (eqb next 1)) (leftOf c (not (eqb next 0)))

@@ -45,9 +45,14 @@ leastWindowCount s cs = fewest sentinel (s .shape) cs (s .covered .most) 0 (s .w
 abbrev pub thriftCount : Settings → List Class → ℕ
 thriftCount s cs = best sentinel (s .shape) cs (leastWindowCount s cs)
 
--- the first plan of such slots within both maximums, if there is one and the covered maximum is below the sentinel
+-- the first plan of such slots within both maximums that begins with a front, if there is one and the covered maximum is
+-- below the sentinel
+abbrev pub completed : Settings → List Class → (front : List ℕ) → List ℕ
+completed s cs front = drawnFrom sentinel (s .shape) cs front 0 (s .windows .most) (s .covered .most)
+
+-- the first plan of such slots, on the same terms
 abbrev pub drawnPlan : Settings → List Class → List ℕ
-drawnPlan s cs = drawnFrom sentinel (s .shape) cs 0 (s .windows .most) (s .covered .most)
+drawnPlan s cs = completed s cs []
 
 -- The marks that are legal for slots of these classes. A len of 0 counts as 1.
 abbrev pub LegalMarks : Settings → List Class → List ℕ → Type 0

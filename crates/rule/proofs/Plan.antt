@@ -6,14 +6,16 @@
 -- least `settle` uncovered slots: 0 in document 01, where windows may touch.
 use Prim.Native.Nat.{ℕ, zero, suc, _+_, _-_, _≤_}
 use native.Mathlib.Omega.{arith}
-use mathlib.Core.Bool.{Bool, true, false, false≢true}
+use mathlib.Core.Bool.{Bool, true, false, cond, false≢true}
 use mathlib.Core.List.{List, [], _∷_}
-use mathlib.Core.Path.{_≡_, refl, sym, _∙_}
+use mathlib.Core.Path.{_≡_, refl, sym, _∙_, subst}
 use borrow.Author.Tests.{ne-eqb}
+use lib.Dec.{eqb}
 use Rattle.rule.proofs.MarkKinds.{Kind, kind, uncovered, opening, later, bridge, above, follows-outside}
 use Rattle.rule.proofs.MarkKinds.{follows-inside, inside-not-after-0, above-3-follows-none}
 use Rattle.rule.proofs.LegalFrom.{WithinSoFar, Passes, LegalFrom, start, legal→from, from→legal}
 use Rattle.rule.proofs.LegalFrom.{legalFrom-split, legalFrom-join, not-3→from-nil, keepsFrom-of-ordered}
+use Rattle.facts.proofs.Naturals.{suc-sub-one}
 use Rattle.facts.proofs.Tests.{and-true→both}
 use Rattle.rule.specs.ScanState.{slotsAfter, bridgesAfter, advanced}
 use Rattle.rule.specs.Rule.{agrees, follows, ordered, legalBy, nonzero}
@@ -31,6 +33,13 @@ pub data State : Type 0 where
   out : (owed : ℕ) → State
   on : (closes : Bool) (slots bridges : ℕ) → State
 
+-- the state after a slot with mark m
+abbrev pub afterMark : (settle laterSlots h : ℕ) → State → (m : ℕ) → State
+afterMark settle laterSlots h (out q) m = cond (eqb m 0) (out (q - 1)) (on true laterSlots h)
+afterMark settle laterSlots h (on c r b) m =
+    cond (eqb m 3) (on false (r - 1) (b - 1))
+    (cond (eqb m 2) (on true (r - 1) b) (cond (eqb m 0) (out (settle - 1)) (on true laterSlots h)))
+
 module _ {A : Type 0} (May : ℕ → A → Type 0) (settle laterSlots h : ℕ) where
   pub data Plan : State → List A → List ℕ → Type 0 where
     done : {q : ℕ} → Plan (out q) [] []
@@ -43,6 +52,36 @@ module _ {A : Type 0} (May : ℕ → A → Type 0) (settle laterSlots h : ℕ) w
         May 2 x → Plan (on true r b) xs ms → Plan (on c (suc r) b) (x ∷ xs) (2 ∷ ms)
     bridges : {c : Bool} {r b : ℕ} {x : A} {xs : List A} {ms : List ℕ} →
         May 3 x → Plan (on false r b) xs ms → Plan (on c (suc r) (suc b)) (x ∷ xs) (3 ∷ ms)
+
+  abbrev next : State → (m : ℕ) → State
+  next = afterMark settle laterSlots h
+
+  -- what comes after the first slot of a plan, and what else may come there
+  tail-closed : (r b : ℕ) {q m : ℕ} {x : A} {xs : List A} {ms : List ℕ} → q ≡ settle → Plan (out q) (x ∷ xs) (m ∷ ms) →
+      Plan (next (on true r b) m) xs ms
+  tail-closed r b {xs = xs} {ms = ms} e (skip a p) = subst (λ n. Plan (out (n - 1)) xs ms) e p
+  tail-closed r b e (opens a p) = p
+
+  pub plan-tail : {st : State} {m : ℕ} {x : A} {xs : List A} {ms : List ℕ} → Plan st (x ∷ xs) (m ∷ ms) →
+      Plan (next st m) xs ms
+  plan-tail (skip a p) = p
+  plan-tail (opens a p) = p
+  plan-tail (close {r = r} {b = b} p) = tail-closed r b refl p
+  plan-tail (more {r = r} a p) = rw (suc-sub-one r) p
+  plan-tail (bridges {r = r} {b = b} a p) = rw (suc-sub-one r, suc-sub-one b) p
+
+  closed-with-tail : (r b : ℕ) {q m : ℕ} {x : A} {xs : List A} {ms ks : List ℕ} → q ≡ settle →
+      Plan (out q) (x ∷ xs) (m ∷ ms) → Plan (next (on true r b) m) xs ks → Plan (out q) (x ∷ xs) (m ∷ ks)
+  closed-with-tail r b {xs = xs} {ks = ks} e (skip a p) t = skip a (subst (λ n. Plan (out (n - 1)) xs ks) (sym e) t)
+  closed-with-tail r b e (opens a p) t = opens a t
+
+  pub plan-with-tail : {st : State} {m : ℕ} {x : A} {xs : List A} {ms ks : List ℕ} → Plan st (x ∷ xs) (m ∷ ms) →
+      Plan (next st m) xs ks → Plan st (x ∷ xs) (m ∷ ks)
+  plan-with-tail (skip a p) t = skip a t
+  plan-with-tail (opens a p) t = opens a t
+  plan-with-tail (close {r = r} {b = b} p) t = close (closed-with-tail r b refl p t)
+  plan-with-tail (more {r = r} a p) t = more a (rw (suc-sub-one r) at t)
+  plan-with-tail (bridges {r = r} {b = b} a p) t = bridges a (rw (suc-sub-one r, suc-sub-one b) at t)
 
 -- the last mark of a window under way, by whether the window may close after it
 data LastMark : Bool → ℕ → Type 0 where

@@ -25,6 +25,16 @@ ChosenIn [] (x ∷ xs) = ⊥
 ChosenIn (r ∷ rs) [] = ⊥
 ChosenIn (r ∷ rs) (x ∷ xs) = (r .lowest ≤ℤ x) × (x ≤ℤ r .highest) × ChosenIn rs xs
 
+-- the end of a range on a mark's side: the highest load for a mark that goes with over loads, the lowest for any other
+abbrev pub endFor : Range → (m : ℕ) → ℤ
+endFor r m = cond (goesWith true m) (r .highest) (r .lowest)
+
+-- the choice of these ends. Marks that are legal for some choice are legal for this one (proofs/Ranges.antt)
+abbrev pub endsFor : List Range → List ℕ → List ℤ
+endsFor [] ms = []
+endsFor (r ∷ rs) [] = r .lowest ∷ endsFor rs []
+endsFor (r ∷ rs) (m ∷ ms) = endFor r m ∷ endsFor rs ms
+
 -- legal for ranges: legal for some choice of loads in them
 abbrev pub LegalFor : (k : ℤ) → Shape → List Range → List ℕ → Type 0
 LegalFor k shape ranges marks = (loads : List ℤ) × ChosenIn ranges loads × (legal k shape loads marks ≡ true)

@@ -8,8 +8,9 @@ use mir.Syntax.{w32}
 use mir.Val.{SFits}
 use borrow.Author.Needs.{needs}
 use Rattle.settings.specs.Refusals.{limit}
-use Rattle.filter.proofs.PlanAnswers.{wide, whole, whole-short, by-codes, no-plan-kept, plan-kept}
+use Rattle.drawing.proofs.OfRequest.{wide, whole, whole-short, by-codes}
 use Rattle.drawing.specs.Codes.{codesOf}
+use Rattle.filter.proofs.PlanAnswers.{no-plan-kept, plan-kept}
 use Rattle.rule.specs.ClassCodes.{decodeAll}
 use Rattle.requests.proofs.Formed.{formed-iff}
 use Rattle.requests.specs.Request.{Request, requestOf, slots, WellFormed}

@@ -1,27 +1,26 @@
--- `drawing::draw` meets its contract. The loop's invariant: to draw the slots from i on is to draw all (`LeftToDraw`).
+-- `drawing::complete` meets its contract. The loop's invariant: to draw the slots from i on is to draw all (`LeftToDraw`).
 use Prim.Native.Nat.{ℕ, _-_}
 use native.Mathlib.Omega.{arith}
 use borrow.Author.Needs.{needs}
-use borrow.Author.Tests.{eq-eqb}
 use lib.ListN.{length-replicate}
 use Rattle.settings.specs.Refusals.{places}
-use Rattle.drawing.proofs.DrawLoop.{LeftToDraw, draw-start, draw-step, draw-end}
-use Rattle.drawing.proofs.draw.Statement.{statement}
-use Rattle.drawing.proofs.draw.Tie as tie
+use Rattle.drawing.proofs.CompleteLoop.{LeftToDraw, complete-start, complete-step, complete-end}
+use Rattle.drawing.proofs.complete.Statement.{statement}
+use Rattle.drawing.proofs.complete.Tie as tie
 
 abbrev Inv-loop : tie.InvT-loop
-Inv-loop settings classes marks₀ n mark₀ windows₀ covered₀ row₀ i₀ marks mark windows covered row i =
-    LeftToDraw settings classes marks₀ marks mark windows covered row i
+Inv-loop settings classes front marks₀ n mark₀ windows₀ covered₀ row₀ i₀ marks mark windows covered row i =
+    LeftToDraw settings classes front marks₀ marks mark windows covered row i
 
 abbrev μ-loop : tie.MeasureT-loop
-μ-loop settings classes marks₀ n mark₀ windows₀ covered₀ row₀ i₀ marks mark windows covered row i =
+μ-loop settings classes front marks₀ n mark₀ windows₀ covered₀ row₀ i₀ marks mark windows covered row i =
     n - i
 
 common-slots-requires : tie.Need-common-slots-requires Inv-loop μ-loop
 common-slots-requires c κs = search needs
 
 loop-holds : tie.Need-loop-holds Inv-loop μ-loop
-loop-holds c = draw-start _ _ _ _ (length-replicate {A = ℕ} places 0)
+loop-holds c = complete-start _ _ _ _ _ (length-replicate {A = ℕ} places 0)
 
 mul-close-window : tie.Need-mul-close-window Inv-loop μ-loop
 mul-close-window c = search needs
@@ -38,6 +37,9 @@ shared-slice-read-next-mark c = search needs
 next-mark-requires : tie.Need-next-mark-requires Inv-loop μ-loop
 next-mark-requires c κs = search needs
 
+mark-at-requires : tie.Need-mark-at-requires Inv-loop μ-loop
+mark-at-requires c κs = search needs
+
 left-of-requires : tie.Need-left-of-requires Inv-loop μ-loop
 left-of-requires c κs = search needs
 
@@ -45,9 +47,7 @@ left-of-requires-2 : tie.Need-left-of-requires-2 Inv-loop μ-loop
 left-of-requires-2 c κs = search needs
 
 row-for-requires : tie.Need-row-for-requires Inv-loop μ-loop
-row-for-requires c κs =
-    let loop = c .before .before .before .before .before .before .loop in
-    ((λ opened. c .before .left-of .ensures .1 (eq-eqb _ _ opened)), loop .inv .wide)
+row-for-requires c κs = c .before .before .before .before .before .before .before .loop .inv .wide
 
 slice-write-marks : tie.Need-slice-write-marks Inv-loop μ-loop
 slice-write-marks c = search needs
@@ -60,12 +60,14 @@ loop-less c = search needs
 
 loop-again : tie.Need-loop-again Inv-loop μ-loop
 loop-again c =
-    let loop = c .before .before .before .before .before .before .before .loop in
-    let slots = c .before .before .before .before .before .before .before .before .common-slots .ensures in
-    let (wide, opened, same) = c .row-for .ensures in
-    draw-step _ _ _ _ _ _ _ _ _ _ slots (loop .inv) (omega arith)
-    (c .before .before .before .before .before .close-window .ensures) (c .before .before .before .next-mark .ensures)
-    (c .before .before .left-of .ensures .0) (c .before .left-of2 .ensures .0) wide opened same
+    let at-mark = c .before .before .before in
+    let at-close = at-mark .before .before .before in
+    let loop = at-close .before .before .loop in
+    let slots = at-close .before .before .before .common-slots .ensures in
+    let (wide, by-row) = c .row-for .ensures in
+    complete-step _ _ _ _ _ _ _ _ _ _ _ slots (loop .inv) (omega arith)
+    (at-close .close-window .ensures) (at-mark .before .next-mark .ensures) (at-mark .mark-at .ensures)
+    (c .before .before .left-of .ensures) (c .before .left-of2 .ensures) wide by-row
 
 same-length : tie.Need-same-length Inv-loop μ-loop
 same-length c = c .before .loop .inv .as-long
@@ -73,10 +75,10 @@ same-length c = c .before .loop .inv .as-long
 returns : tie.Need-returns Inv-loop μ-loop
 returns c =
     let loop = c .before .loop in
-    draw-end _ _ _ _ _ _ _ _ _ _ (c .before .before .common-slots .ensures) (loop .inv) (omega arith)
+    complete-end _ _ _ _ _ _ _ _ _ _ _ (c .before .before .common-slots .ensures) (loop .inv) (omega arith)
 
-pub draw-spec : {M : Type 1} → statement M
-draw-spec =
+pub complete-spec : {M : Type 1} → statement M
+complete-spec =
     tie.close
     (tie.spec
     Inv-loop
@@ -88,6 +90,7 @@ draw-spec =
     close-window-requires
     shared-slice-read-next-mark
     next-mark-requires
+    mark-at-requires
     left-of-requires
     left-of-requires-2
     row-for-requires
