@@ -56,6 +56,8 @@ static const char *refusal(uint16_t code)
     case ICECOPPICE_WINDOW_COUNTS: return "the window counts are crossed or above the number of slots";
     case ICECOPPICE_COVERED_COUNTS: return "the covered counts are crossed or above the number of slots";
     case ICECOPPICE_CROSSED: return "the lowest load is above the highest";
+    case ICECOPPICE_PAGED_SLOTS: return "there have to be at most 12 slots to page through the plans";
+    case ICECOPPICE_GIVEN_PLAN: return "the given marks are no plan of the request";
     default: return "an unknown number";
     }
 }

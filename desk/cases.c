@@ -1,5 +1,6 @@
 #include "cases.h"
 #include "compare.h"
+#include "paging.h"
 
 #include <stdio.h>
 #include <string.h>
@@ -88,6 +89,7 @@ void check_cases(void)
 {
     for (size_t i = 0; i < sizeof cases / sizeof *cases; i++) {
         struct request r = request_of(&cases[i]);
+        check_every_page(&r);
         struct icecoppice_answer a = compare_filter(&r);
         if (!as_worked(&cases[i], &a, &r)) {
             printf("case %s: ", cases[i].name);

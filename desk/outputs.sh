@@ -26,4 +26,5 @@ says() {
 says "target/bin/printer < $card" 0 "printer: standard output did not take the whole answer"
 says "target/desk/plan $card" 2 "standard output: "
 says "target/desk/edit $card target/desk/edited.card" 2 "standard output: "
+says "target/desk/pages $card" 2 "standard output: "
 echo "a program says where its output takes nothing"

@@ -28,6 +28,57 @@ struct request some_request(size_t n)
     return r;
 }
 
+int32_t load_for_mark(int32_t k, uint8_t mark)
+{
+    return load_on_side(k, search_goes_with_over(mark));
+}
+
+void draw_marks(const struct settings *s, uint8_t *marks, size_t n)
+{
+    size_t j = 0;
+    while (j < n) {
+        if (one_in(2)) {
+            marks[j++] = ICECOPPICE_UNCOVERED;
+            continue;
+        }
+        size_t end = j + 1 + below(n - j < s->len ? n - j : s->len);
+        unsigned bridges = s->h;
+        for (marks[j++] = ICECOPPICE_FIRST; j < end; j++) {
+            bool bridge = bridges > 0 && j + 1 < end && one_in(2);
+            bridges -= bridge;
+            marks[j] = bridge ? ICECOPPICE_BRIDGE : ICECOPPICE_LATER;
+        }
+    }
+}
+
+void allow_marks(struct settings *s, const uint8_t *marks, size_t n, uint32_t slack)
+{
+    unsigned windows = below(slack + 1), covered = below(slack + 1);
+    for (size_t j = 0; j < n; j++) {
+        windows += marks[j] == ICECOPPICE_FIRST;
+        covered += marks[j] != ICECOPPICE_UNCOVERED;
+    }
+    s->windows_most = windows < n ? windows : n;
+    s->covered_most = covered < n ? covered : n;
+    s->windows_least = below(s->windows_most + 1);
+    s->covered_least = below(s->covered_most + 1);
+}
+
+struct request request_with_plan(size_t n)
+{
+    struct request r = some_request(n);
+    if (r.settings.k == INT32_MAX)
+        r.settings.k--; /* so that loads can be over */
+    draw_marks(&r.settings, r.marks + MARGIN, n);
+    allow_marks(&r.settings, r.marks + MARGIN, n, one_in(4));
+    for (size_t j = MARGIN; j < MARGIN + n; j++) {
+        int32_t load = load_for_mark(r.settings.k, r.marks[j]);
+        r.lowest[j] = one_in(3) ? INT32_MIN : load;
+        r.highest[j] = one_in(3) ? INT32_MAX : load;
+    }
+    return r;
+}
+
 static size_t some_length(void)
 {
     return below(PLACES + 1);

@@ -89,13 +89,19 @@ bool search_is_plan(const struct settings *s, const int32_t *lowest, const int32
            within_maximums(s, counts_of(marks, n));
 }
 
-/* The first of the refusals 21 to 26 that applies, or 0. The judge has one other slice; its length is given twice. */
-static uint16_t refusal(const struct settings *s, size_t n, size_t second_length, size_t third_length)
+/* The first of the refusals 21 and 22 that applies, or 0. The judge has one other slice; its length is given twice. */
+static uint16_t length_refusal(size_t n, size_t second_length, size_t third_length)
 {
     if (n == 0 || n > ICECOPPICE_SLOTS)
         return ICECOPPICE_FIRST_LENGTH;
     if (second_length != n || third_length != n)
         return ICECOPPICE_OTHER_LENGTH;
+    return 0;
+}
+
+/* The first of the refusals 23 to 26 that applies, or 0. */
+static uint16_t settings_refusal(const struct settings *s, size_t n)
+{
     if (s->len == 0 || s->len > n)
         return ICECOPPICE_WINDOW_LENGTH;
     if (s->h > 0 && (uint32_t)s->h + 1 >= s->len)
@@ -107,17 +113,62 @@ static uint16_t refusal(const struct settings *s, size_t n, size_t second_length
     return 0;
 }
 
+/* The first of the refusals 21 to 26 that applies, or 0. */
+static uint16_t refusal(const struct settings *s, size_t n, size_t second_length, size_t third_length)
+{
+    uint16_t refused = length_refusal(n, second_length, third_length);
+    return refused != 0 ? refused : settings_refusal(s, n);
+}
+
+/* The first slot whose lowest load is above its highest, or n. */
+static size_t first_crossed(const int32_t *lowest, const int32_t *highest, size_t n)
+{
+    size_t slot = 0;
+    while (slot < n && lowest[slot] <= highest[slot])
+        slot++;
+    return slot;
+}
+
 struct icecoppice_answer search_refusal(const struct settings *s, const int32_t *lowest, size_t lowest_length,
                                         const int32_t *highest, size_t highest_length, size_t marks_length)
 {
     uint16_t refused = refusal(s, lowest_length, highest_length, marks_length);
     if (refused != 0)
         return (struct icecoppice_answer){.code = refused};
-    for (size_t j = 0; j < lowest_length; j++) {
-        if (lowest[j] > highest[j])
-            return (struct icecoppice_answer){.code = ICECOPPICE_CROSSED, .slot = j};
-    }
+    size_t slot = first_crossed(lowest, highest, lowest_length);
+    if (slot < lowest_length)
+        return (struct icecoppice_answer){.code = ICECOPPICE_CROSSED, .slot = slot};
     return (struct icecoppice_answer){.code = 0};
+}
+
+/* The first of the refusals 21, 22, 34 and 23 to 26 that applies to the paging, or 0. */
+static uint16_t early_page_refusal(const struct settings *s, size_t n, size_t highest_length, size_t given_length,
+                                   size_t marks_length)
+{
+    uint16_t refused = length_refusal(n, highest_length, marks_length);
+    if (refused != 0)
+        return refused;
+    if (given_length != 0 && given_length != n)
+        return ICECOPPICE_OTHER_LENGTH;
+    if (n > 12)
+        return ICECOPPICE_PAGED_SLOTS;
+    return settings_refusal(s, n);
+}
+
+struct icecoppice_page search_page_refusal(const struct settings *s, const int32_t *lowest, size_t lowest_length,
+                                           const int32_t *highest, size_t highest_length, const uint8_t *given,
+                                           size_t given_length, size_t marks_length)
+{
+    size_t n = lowest_length;
+    uint16_t refused = early_page_refusal(s, n, highest_length, given_length, marks_length);
+    if (refused != 0)
+        return (struct icecoppice_page){.code = refused};
+    size_t slot = first_crossed(lowest, highest, n);
+    if (slot < n)
+        return (struct icecoppice_page){.code = ICECOPPICE_CROSSED, .slot = slot};
+    if (given_length != 0 && !search_is_plan(s, lowest, highest, given, n))
+        return (struct icecoppice_page){.code = ICECOPPICE_GIVEN_PLAN};
+    return (struct icecoppice_page){.code = 0};
 }
 
 struct icecoppice_verdict search_judge(const struct settings *s, const int32_t *loads, size_t loads_length,
@@ -162,6 +213,12 @@ static const struct drawings *drawings_of(size_t n, unsigned len, unsigned h)
     return all;
 }
 
+static bool is_plan_for(const struct settings *s, const int32_t *lowest, const int32_t *highest,
+                        const struct drawing *d, size_t n)
+{
+    return within_maximums(s, d->counts) && loads_exist(s->k, lowest, highest, d->marks, n);
+}
+
 /* What occurs in the plans of a request; the thrift is the least covered count of those with the fewest windows. */
 struct findings {
     bool planned;
@@ -196,9 +253,8 @@ static struct findings find(const struct settings *s, const int32_t *lowest, con
     struct findings f = {.planned = false};
     const struct drawings *all = drawings_of(n, s->len, s->h);
     for (size_t i = 0; i < all->length; i++) {
-        const struct drawing *d = &all->list[i];
-        if (within_maximums(s, d->counts) && loads_exist(s->k, lowest, highest, d->marks, n))
-            take_in(&f, d, n);
+        if (is_plan_for(s, lowest, highest, &all->list[i], n))
+            take_in(&f, &all->list[i], n);
     }
     return f;
 }
@@ -238,6 +294,37 @@ struct icecoppice_answer search_filter(const struct settings *s, int32_t *lowest
         .covered_most = s->covered_most,
         .thrift = (uint16_t)f.thrift,
     };
+}
+
+/* The first plan that stands after the given one, or, where none is given, the first of all; NULL if there is none. */
+static const uint8_t *plan_after(const struct settings *s, const int32_t *lowest, const int32_t *highest,
+                                 const uint8_t *given, size_t n)
+{
+    const struct drawings *all = drawings_of(n, s->len, s->h);
+    bool passed = given == NULL;
+    for (size_t i = 0; i < all->length; i++) {
+        const struct drawing *d = &all->list[i];
+        if (passed && is_plan_for(s, lowest, highest, d, n))
+            return d->marks;
+        passed = passed || memcmp(d->marks, given, n) == 0;
+    }
+    return NULL;
+}
+
+struct icecoppice_page search_next_plan(const struct settings *s, const int32_t *lowest, size_t lowest_length,
+                                        const int32_t *highest, size_t highest_length, const uint8_t *given,
+                                        size_t given_length, uint8_t *marks, size_t marks_length)
+{
+    size_t n = lowest_length;
+    struct icecoppice_page refused =
+        search_page_refusal(s, lowest, n, highest, highest_length, given, given_length, marks_length);
+    if (refused.code != 0)
+        return refused;
+    const uint8_t *next = plan_after(s, lowest, highest, given_length > 0 ? given : NULL, n);
+    if (next == NULL)
+        return (struct icecoppice_page){.code = ICECOPPICE_NO};
+    memcpy(marks, next, n);
+    return (struct icecoppice_page){.code = ICECOPPICE_YES};
 }
 
 /* Bit j of a string chooses between the two marks that go with the load of slot j. */

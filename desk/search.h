@@ -10,7 +10,7 @@
 
 #include <stdbool.h>
 
-/* search_filter aborts at a request with more slots than this that it does not refuse. */
+/* search_filter and search_next_plan abort at a request with more slots than this that they do not refuse. */
 #define SEARCH_SLOTS 8
 
 /* search_least_windows aborts at more loads than this. */
@@ -33,6 +33,16 @@ struct icecoppice_answer search_refusal(const struct settings *s, const int32_t 
 /* What the filter has to answer; on "planned" the ranges are narrowed in place, and the marks become the first plan. */
 struct icecoppice_answer search_filter(const struct settings *s, int32_t *lowest, size_t lowest_length,
                                        int32_t *highest, size_t highest_length, uint8_t *marks, size_t marks_length);
+
+/* The refusal that the paging has to give, with its slot, or code 0 if none applies; for any number of slots. */
+struct icecoppice_page search_page_refusal(const struct settings *s, const int32_t *lowest, size_t lowest_length,
+                                           const int32_t *highest, size_t highest_length, const uint8_t *given,
+                                           size_t given_length, size_t marks_length);
+
+/* What the paging has to answer; where there is a next plan, the marks become it. */
+struct icecoppice_page search_next_plan(const struct settings *s, const int32_t *lowest, size_t lowest_length,
+                                        const int32_t *highest, size_t highest_length, const uint8_t *given,
+                                        size_t given_length, uint8_t *marks, size_t marks_length);
 
 /* What the judge has to answer, for any number of slots. */
 struct icecoppice_verdict search_judge(const struct settings *s, const int32_t *loads, size_t loads_length,

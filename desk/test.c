@@ -1,11 +1,13 @@
 /*
  * Holds the library to the search on the worked cases and on random requests and plans, whole and damaged; to what
- * follows from the definitions on requests too large to search; the watch to what watch.h says; and the reader, the
- * look-up and the writer to what cards.h and writing.h say. The seed is fixed, so every run asks the same.
+ * follows from the definitions on requests too large to search; the paging to what paging.h says; the watch to what
+ * watch.h says; and the reader, the look-up and the writer to what cards.h and writing.h say. The seed is fixed, so
+ * every run asks the same.
  */
 #include "cards.h"
 #include "cases.h"
 #include "compare.h"
+#include "paging.h"
 #include "random.h"
 #include "requests.h"
 #include "watch.h"
@@ -17,63 +19,9 @@
 enum { SMALL_SLOTS = 6, SMALL_REQUESTS = 400000, JUDGED_PLANS = 400000 };
 enum { DAMAGED_REQUESTS = 15000, LARGE_REQUESTS = 2000, SETTLED_REQUESTS = 100 };
 
-static int32_t load_for_mark(int32_t k, uint8_t mark)
-{
-    return load_on_side(k, search_goes_with_over(mark));
-}
-
 static size_t large_length(void)
 {
     return one_in(4) ? ICECOPPICE_SLOTS : SMALL_SLOTS + 1 + below(ICECOPPICE_SLOTS - SMALL_SLOTS);
-}
-
-/* Legal marks for some loads, if the settings are accepted. */
-static void draw_marks(const struct settings *s, uint8_t *marks, size_t n)
-{
-    size_t j = 0;
-    while (j < n) {
-        if (one_in(2)) {
-            marks[j++] = ICECOPPICE_UNCOVERED;
-            continue;
-        }
-        size_t end = j + 1 + below(n - j < s->len ? n - j : s->len);
-        unsigned bridges = s->h;
-        for (marks[j++] = ICECOPPICE_FIRST; j < end; j++) {
-            bool bridge = bridges > 0 && j + 1 < end && one_in(2);
-            bridges -= bridge;
-            marks[j] = bridge ? ICECOPPICE_BRIDGE : ICECOPPICE_LATER;
-        }
-    }
-}
-
-/* Sets both maximums to what the marks need, and up to `slack` more. */
-static void allow_marks(struct settings *s, const uint8_t *marks, size_t n, uint32_t slack)
-{
-    unsigned windows = below(slack + 1), covered = below(slack + 1);
-    for (size_t j = 0; j < n; j++) {
-        windows += marks[j] == ICECOPPICE_FIRST;
-        covered += marks[j] != ICECOPPICE_UNCOVERED;
-    }
-    s->windows_most = windows < n ? windows : n;
-    s->covered_most = covered < n ? covered : n;
-    s->windows_least = below(s->windows_most + 1);
-    s->covered_least = below(s->covered_most + 1);
-}
-
-/* A request made around a plan, which its marks hold. */
-static struct request request_with_plan(size_t n)
-{
-    struct request r = some_request(n);
-    if (r.settings.k == INT32_MAX)
-        r.settings.k--; /* so that loads can be over */
-    draw_marks(&r.settings, r.marks + MARGIN, n);
-    allow_marks(&r.settings, r.marks + MARGIN, n, one_in(4));
-    for (size_t j = MARGIN; j < MARGIN + n; j++) {
-        int32_t load = load_for_mark(r.settings.k, r.marks[j]);
-        r.lowest[j] = one_in(3) ? INT32_MIN : load;
-        r.highest[j] = one_in(3) ? INT32_MAX : load;
-    }
-    return r;
 }
 
 static void compare_some_plan(void)
@@ -372,11 +320,13 @@ int main(void)
     check_watch_states();
     check_cards();
     check_writing();
+    check_paging();
     print_tally();
     printf("%-32s %7d\n", "filter, large: each slot settled", SETTLED_REQUESTS);
     print_watch_tally();
     print_card_tally();
     print_writing_tally();
+    print_paging_tally();
     printf("all agree\n");
     return 0;
 }

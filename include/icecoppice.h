@@ -1,15 +1,15 @@
 /*
- * The boost-window planner for C11 and C++17: a filter that cuts load ranges and draws the first plan, a judge of
- * finished plans, a reader and a writer of form 1 files, the camera's cards, and a watch, which counts windows slot by
- * slot.
+ * The boost-window planner for C11 and C++17: a filter that cuts load ranges and draws the first plan, a paging through
+ * all plans of a short burst, a judge of finished plans, a reader and a writer of form 1 files, the camera's cards, and
+ * a watch, which counts windows slot by slot.
  *
  * Link with libicecoppice.a (x86-64 Linux); `make install` puts it where pkg-config finds it. The functions are proved
  * for all values of their arguments. Only the test in desk/ checks these declarations against their source,
  * crates/icecoppice/src.
  *
  * What a caller owes: each pointer is aligned and points to as many entries as its length says (a length of 0 asks
- * nothing of the pointer), and no slice lent to the filter, the reader or the writer overlaps another. The watch takes
- * numbers only, and a caller owes it nothing.
+ * nothing of the pointer), and no slice lent to the filter, the paging, the reader or the writer overlaps another. The
+ * watch takes numbers only, and a caller owes it nothing.
  *
  * No function keeps state from one call to the next, so that any thread may call any of them on slices of its own.
  */
@@ -26,6 +26,9 @@ extern "C" {
 
 /* The most slots of a request. */
 #define ICECOPPICE_SLOTS 64
+
+/* The most slots of a request whose plans are paged through. */
+#define ICECOPPICE_PAGED 12
 
 /* The most bytes of a form 1 file. */
 #define ICECOPPICE_FILE_BYTES 4096
@@ -49,8 +52,8 @@ extern "C" {
 #define ICECOPPICE_BRIDGE    3 /* a later slot of a window, with its load at most the threshold */
 
 /* Codes. Numbers from 11 on are refusals; the first that applies is given. */
-#define ICECOPPICE_YES             0  /* planned; yes; file taken; slot found; file stored; started, or load taken */
-#define ICECOPPICE_NO              1  /* the filter: no plan; the judge: no */
+#define ICECOPPICE_YES             0  /* planned; next plan; yes; file taken, stored; slot found; started; load taken */
+#define ICECOPPICE_NO              1  /* the filter: no plan; the paging: no further plan; the judge: no */
 #define ICECOPPICE_FILE_SIZE       11 /* the file has fewer than 16 or more than 4,096 bytes */
 #define ICECOPPICE_FILE_END        12 /* its last two bytes are not 54 43 (hexadecimal) */
 #define ICECOPPICE_FILE_FORM       13 /* its form byte is not 1 */
@@ -61,14 +64,16 @@ extern "C" {
 #define ICECOPPICE_BUFFER_LENGTH   18 /* the writer: the lent buffer is shorter than the file */
 #define ICECOPPICE_SLOT_NUMBER     19 /* the look-up: the slot number is not below n */
 #define ICECOPPICE_FIRST_LENGTH    21 /* the first slice has 0 entries or more than 64 */
-#define ICECOPPICE_OTHER_LENGTH    22 /* another slice has a different length */
+#define ICECOPPICE_OTHER_LENGTH    22 /* another slice has a different length; the paging's given plan may be empty */
 #define ICECOPPICE_WINDOW_LENGTH   23 /* len is 0 or above the number of slots n; the watch: len is 0 or above 64 */
 #define ICECOPPICE_BRIDGES         24 /* h > 0 and h + 1 >= len */
 #define ICECOPPICE_WINDOW_COUNTS   25 /* the least windows above the most, or the most above n */
 #define ICECOPPICE_COVERED_COUNTS  26 /* the least covered above the most, or the most above n */
-#define ICECOPPICE_CROSSED         31 /* the filter, the writer: a slot's lowest load above its highest */
+#define ICECOPPICE_CROSSED         31 /* the filter, the paging, the writer: a slot's lowest load above its highest */
 #define ICECOPPICE_UNREACHED       32 /* the watch: a state that no accepted start and steps lead to */
 #define ICECOPPICE_FULL            33 /* the watch: 1,000,000 slots already taken */
+#define ICECOPPICE_PAGED_SLOTS     34 /* the paging: more than 12 slots */
+#define ICECOPPICE_GIVEN_PLAN      35 /* the paging: the given marks are not legal for the ranges, or above a maximum */
 
 /*
  * What the filter answers. All fields but the code are 0 where their comment does not apply. Each least number is over
@@ -83,6 +88,12 @@ struct icecoppice_answer {
     uint16_t covered_least; /* planned: the least number of covered slots, or the given minimum if that is larger */
     uint16_t covered_most;  /* planned: the given maximum */
     uint16_t thrift;        /* planned: the least number of covered slots among the plans with the fewest windows */
+};
+
+/* What the paging answers. The slot is 0 where its comment does not apply. */
+struct icecoppice_page {
+    uint16_t code; /* 0: the next plan; 1: there is no further one; or a refusal: 21, 22, 34, 23 to 26, 31, then 35 */
+    size_t slot;   /* with code 31: the first slot whose lowest load is above its highest */
 };
 
 /* What the judge answers. Both counts are 0 unless the code is yes. */
@@ -143,7 +154,7 @@ struct icecoppice_stepped {
 };
 
 /*
- * The settings, in the filter, the judge and the writer:
+ * The settings, in the filter, the paging, the judge and the writer:
  *   k                threshold; a load above it is over
  *   len              the most slots of a window
  *   h                the most bridges of a window
@@ -165,6 +176,24 @@ struct icecoppice_answer icecoppice_filter(int32_t k, uint16_t len, uint16_t h,
                                            int32_t *lowest, size_t lowest_length,
                                            int32_t *highest, size_t highest_length,
                                            uint8_t *marks, size_t marks_length);
+
+/*
+ * Pages through all plans of a burst of at most ICECOPPICE_PAGED slots. lowest and highest hold each slot's load range,
+ * given a plan, or nothing to ask for the first; marks receives the next plan. All four have one length, but given may
+ * be empty.
+ *
+ * The next plan is the first that comes after the given one, of all plans within both maximums and in the order in
+ * which the filter draws the first. Called with nothing, and then with each plan that it gave, it gives every plan once
+ * and no other marks. The ranges are not narrowed. On "no further one" and on a refusal marks holds what it held
+ * before.
+ */
+struct icecoppice_page icecoppice_next_plan(int32_t k, uint16_t len, uint16_t h,
+                                            uint16_t windows_least, uint16_t windows_most,
+                                            uint16_t covered_least, uint16_t covered_most,
+                                            const int32_t *lowest, size_t lowest_length,
+                                            const int32_t *highest, size_t highest_length,
+                                            const uint8_t *given, size_t given_length,
+                                            uint8_t *marks, size_t marks_length);
 
 /* Judges a finished plan: yes exactly when the marks are legal for the loads and both counts keep their maximums. */
 struct icecoppice_verdict icecoppice_judge(int32_t k, uint16_t len, uint16_t h,

@@ -5,6 +5,7 @@ use crate::cards::read;
 use crate::filtered::filtered;
 use crate::judged::chosen;
 use crate::judged::judged;
+use crate::paged::paged;
 use crate::show::write;
 use crate::text::after_byte;
 use crate::watched::stepped;
@@ -16,6 +17,7 @@ mod cards;
 mod filtered;
 mod judged;
 mod numbers;
+mod paged;
 mod show;
 mod text;
 mod watched;
@@ -49,6 +51,7 @@ fn operation(letter: u8, line: &[u8]) {
         b'f' => filtered(line),
         b'j' => judged(line),
         b'c' => chosen(line),
+        b'p' => paged(line),
         b'w' => watched(line),
         b's' => stepped(line),
         b'r' => read(line),

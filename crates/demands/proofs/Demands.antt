@@ -12,6 +12,7 @@ use Rattle.card.proofs.LookUpAgrees.{look-up-agrees}
 use Rattle.card.proofs.ReaderAnswers.{reader-refuses, look-up-refuses, refused-unaltered}
 use Rattle.icecoppice.proofs.CodeMeans.{code-means}
 use Rattle.icecoppice.proofs.Means.{means, verdict-means}
+use Rattle.icecoppice.proofs.PageMeans.{page-means}
 use Rattle.icecoppice.proofs.WatchMeans.{start-means, step-means}
 use Rattle.chooser.proofs.Chooses.{chosen→chooses}
 use Rattle.judge.proofs.Allowed.{Allowed, allowed-iff, allowed→yes, yes→allowed, judgment-refuses}
@@ -37,9 +38,12 @@ use Rattle.requests.proofs.Cases.{all-kept, thrift-rises}
 use Rattle.requests.proofs.Decided.{decided, keeps-iff}
 use Rattle.requests.proofs.Demand3.{demand3}
 use Rattle.requests.proofs.DrawnPlan.{completed-first, drawnPlan-first}
-use Rattle.requests.proofs.PlansAreJudged.{plan-iff-yes}
+use Rattle.requests.proofs.Formed.{formed-iff}
+use Rattle.requests.proofs.PlansAreJudged.{plan-iff-ends, plan-iff-yes}
 use Rattle.requests.proofs.LeastCounts.{counts-are-least}
 use Rattle.requests.proofs.Outcomes.{keeps→unaltered, keeps→refused}
+use Rattle.paging.proofs.Decided.{decided as Paging·decided, turns→refused, turns→unaltered}
+use Rattle.paging.proofs.Enumerates.{enumerates}
 use Rattle.watch.proofs.CountIsLeast.{count-is-least, case-l}
 use Rattle.watch.proofs.TestedIsReached.{tested→reached}
 use Rattle.watch.proofs.ReachedIsTested.{reached→tested}
@@ -48,12 +52,14 @@ use Rattle.watch.proofs.StartAnswers
 use Rattle.writer.proofs.WriterAnswers
 use Rattle.writer.proofs.WriterAnswers.{writer-refuses, stores-accepted}
 use Rattle.demands.proofs.Delivers.{delivers, delivers-covered, delivers-thrift}
+use Rattle.demands.proofs.FirstPage.{first-page}
 use Rattle.demands.proofs.RoundTrip.{reads-back, writes-back, shortest}
 use Rattle.demands.proofs.WatchIsLeast.{watch-least}
 use Rattle.demands.specs.Demands.{Demand1, Judges, Demand2, Established, Contracts, Demands}
 use Rattle.filter.proofs.filter as Filter
 use Rattle.judge.proofs.judge as Judge
 use Rattle.chooser.proofs.choose as Choose
+use Rattle.paging.proofs.next_plan as NextPage
 use Rattle.watch.proofs.Watch.start as Start
 use Rattle.watch.proofs.Watch.step as Step
 use Rattle.watch.proofs.Watch.run as Run
@@ -67,6 +73,7 @@ use Rattle.listing.proofs.write_answer as WriteAnswer
 use Rattle.listing.proofs.write_refusal as WriteRefusal
 use Rattle.icecoppice.proofs.icecoppice_filter as CFilter
 use Rattle.icecoppice.proofs.icecoppice_judge as CJudge
+use Rattle.icecoppice.proofs.icecoppice_next_plan as CNextPage
 use Rattle.icecoppice.proofs.icecoppice_read as CRead
 use Rattle.icecoppice.proofs.icecoppice_look_up as CLookUp
 use Rattle.icecoppice.proofs.icecoppice_write as CWrite
@@ -102,8 +109,11 @@ demand1 =
       reader = reader-refuses;
       look-up = look-up-refuses;
       writer = writer-refuses;
+      paging = turns→refused;
       decided = decided;
       unaltered = keeps→unaltered;
+      paging-decided = Paging·decided;
+      paging-unaltered = turns→unaltered;
       chooser = chosen→chooses;
       step = λ w load r s. s .kept;
       run = λ w v loads taken f r. run-refusals r;
@@ -112,6 +122,7 @@ demand1 =
       writer-unaltered = WriterAnswers.refused-unaltered;
       filter-for-c = λ r numbers los his ms a. means a;
       judge-for-c = verdict-means;
+      paging-for-c = λ q numbers ms a. page-means a;
       reader-for-c = code-means (λ a. headerNumbers a .code) (λ header. refl) (λ f. refl);
       look-up-for-c = code-means (λ a. foundNumbers a .code) (λ range. refl) (λ f. refl);
       writer-for-c = code-means (λ a. writingNumbers a .code) (λ length. refl) (λ f. refl);
@@ -207,6 +218,9 @@ established =
       counts-are-least = counts-are-least;
       drawn = drawnPlan-first;
       drawn-with-front = completed-first;
+      plans-at-ends = λ r w ms. plan-iff-ends r (formed-iff .0 w) ms;
+      pages = enumerates;
+      first-page = λ r o f. first-page r (f .well) o (f .kept);
       thrift =
           λ r o f. delivers-thrift r (f .well) _
           (λ X yc zc S. corners (r .settings) X yc zc S .weightedSpringy) o (f .kept);
@@ -232,6 +246,7 @@ contracts =
       filter = record { meets = Filter.Met.met; total = λ M 𝓤 H A mem run κs a. (tt, λ g. refl) };
       judge = record { meets = Judge.Met.met; total = λ M 𝓤 H A mem run κs a. (tt, λ g. refl) };
       choose = record { meets = Choose.Met.met; total = λ M 𝓤 H A mem run κs a. (tt, λ g. refl) };
+      next-plan = record { meets = NextPage.Met.met; total = λ M 𝓤 H A mem run κs a. (tt, λ g. refl) };
       start = record { meets = Start.Met.met; total = λ M 𝓤 H A mem run κs a. (tt, λ g. refl) };
       step = record { meets = Step.Met.met; total = λ M 𝓤 H A mem run κs a. (tt, λ g. refl) };
       run = record { meets = Run.Met.met; total = λ M 𝓤 H A mem run κs a. (tt, λ g. refl) };
@@ -245,6 +260,7 @@ contracts =
       write-refusal = record { meets = WriteRefusal.Met.met; total = λ M 𝓤 H A mem run κs a. (tt, λ g. refl) };
       filter-for-c = record { meets = CFilter.Met.met; total = λ M 𝓤 H A mem run κs a. (tt, λ g. refl) };
       judge-for-c = record { meets = CJudge.Met.met; total = λ M 𝓤 H A mem run κs a. (tt, λ g. refl) };
+      next-plan-for-c = record { meets = CNextPage.Met.met; total = λ M 𝓤 H A mem run κs a. (tt, λ g. refl) };
       read-for-c = record { meets = CRead.Met.met; total = λ M 𝓤 H A mem run κs a. (tt, λ g. refl) };
       look-up-for-c = record { meets = CLookUp.Met.met; total = λ M 𝓤 H A mem run κs a. (tt, λ g. refl) };
       write-for-c = record { meets = CWrite.Met.met; total = λ M 𝓤 H A mem run κs a. (tt, λ g. refl) };

@@ -5,11 +5,11 @@
 -- What an operation hands back is known from its contract, and from nothing else. What the filter hands back for a
 -- request r is an outcome o with `Keeps r o`: each line below that has `Keeps` speaks of it. What the judge answers
 -- is `judgment`, what the chooser hands back is `Chosen`, what a watch gives is `starting`, `Steps` and `Runs`, what
--- the reader leaves is `reading`, what a look-up gives, also through a view, is `looking`, and what the writer leaves
--- is `writing`.
+-- the reader leaves is `reading`, what a look-up gives, also through a view, is `looking`, what the writer leaves is
+-- `writing`, and what a page gives and leaves is `Turns`.
 use Prim.Native.Nat.{ℕ, _≤_, _<_, max}
 use mathlib.Core.Bool.{true, false}
-use mathlib.Core.List.{List}
+use mathlib.Core.List.{List, []}
 use mathlib.Core.Logic.{_↔_, _⊎_}
 use mathlib.Core.Option.{none, some}
 use mathlib.Core.Path.{_≡_}
@@ -19,7 +19,7 @@ use lib.ListN.{length}
 use mir.Syntax.{w32}
 use mir.Val.{SFits}
 use Rattle.rule.specs.Order.{Begins, First}
-use Rattle.rule.specs.Ranges.{ChosenIn, Class}
+use Rattle.rule.specs.Ranges.{ChosenIn, Class, endsFor}
 use Rattle.rule.specs.declared.Range.{Range}
 use Rattle.rule.specs.declared.Shape.{Shape}
 use Rattle.refusals.specs.Answer.{Answer, refuses, gives}
@@ -30,7 +30,7 @@ use Rattle.refusals.specs.declared.Refusal.the-variants.{Lent, Slot, Unreached,
 use Rattle.settings.specs.Refusals.{refusal}
 use Rattle.settings.specs.declared.CountRange.{CountRange}
 use Rattle.settings.specs.declared.Settings.{Settings}
-use Rattle.judge.specs.Judgment.{says, judgeRefusal, judgment}
+use Rattle.judge.specs.Judgment.{says, allowed, judgeRefusal, judgment}
 use Rattle.chooser.specs.Choice.{Chosen, Chooses}
 use Rattle.published.specs.Published.{Sequence, size, sum, _⊆_, Focus, SpringyFocus, WeightedFocus}
 use Rattle.published.specs.Published.{WeightedSpringyFocus, sequencesOf, Theorems}
@@ -41,6 +41,8 @@ use Rattle.requests.specs.Promise.{Outcome, Says, SaysPlanned, SaysNoPlan, Held
 use Rattle.requests.specs.Request.{Request, slots, paired, ranges, at, filterRefusal, WellFormed, PlanOf}
 use Rattle.requests.specs.declared.PlanCounts.{PlanCounts}
 use Rattle.requests.specs.Solution.{sentinel, completed, drawnPlan, FitsAt, CountsAreLeast, solution}
+use Rattle.paging.specs.Pages.{Enumerates}
+use Rattle.paging.specs.Paging.{Call, RefusedWith, NextPlan, Result, no-further, Turns}
 use Rattle.watch.specs.Promise.{meaning, Steps, Runs, RunsFromReached, CountIsLeast, CaseL}
 use Rattle.watch.specs.Start.{starting}
 use Rattle.watch.specs.States.{startRefusal, LeadsTo, Reached}
@@ -56,14 +58,17 @@ use Rattle.listing.specs.Cases.{Cases as Listing·Cases}
 use Rattle.listing.specs.Text.{Decimal}
 use Rattle.icecoppice.specs.FileNumbers.{headerNumbers, foundNumbers, writingNumbers, CodeMeans}
 use Rattle.icecoppice.specs.Numbers.{KeepsInNumbers, Means, VerdictMeans}
+use Rattle.icecoppice.specs.PageNumbers.{TurnsInNumbers, PageMeans}
 use Rattle.icecoppice.specs.WatchNumbers.{StepsInNumbers, StartMeans, StepMeans}
 use Rattle.icecoppice.specs.declared.AnswerNumbers.{AnswerNumbers}
+use Rattle.icecoppice.specs.declared.pages.PageNumbers.{PageNumbers}
 use Rattle.icecoppice.specs.declared.watches.StepNumbers.{StepNumbers}
 use Rattle.demands.specs.Operation.{Operation}
 use Rattle.demands.specs.RoundTrip.{ReadsBack, WritesBack, Shortest}
 use Rattle.filter.proofs.filter as Filter
 use Rattle.judge.proofs.judge as Judge
 use Rattle.chooser.proofs.choose as Choose
+use Rattle.paging.proofs.next_plan as NextPage
 use Rattle.watch.proofs.Watch.start as Start
 use Rattle.watch.proofs.Watch.step as Step
 use Rattle.watch.proofs.Watch.run as Run
@@ -77,6 +82,7 @@ use Rattle.listing.proofs.write_answer as WriteAnswer
 use Rattle.listing.proofs.write_refusal as WriteRefusal
 use Rattle.icecoppice.proofs.icecoppice_filter as CFilter
 use Rattle.icecoppice.proofs.icecoppice_judge as CJudge
+use Rattle.icecoppice.proofs.icecoppice_next_plan as CNextPage
 use Rattle.icecoppice.proofs.icecoppice_read as CRead
 use Rattle.icecoppice.proofs.icecoppice_look_up as CLookUp
 use Rattle.icecoppice.proofs.icecoppice_write as CWrite
@@ -104,7 +110,7 @@ use Rattle.refusals.proofs.Refusal.number as Number
 use Rattle.refusals.proofs.Refusal.slot as RefusedSlot
 
 -- Demand 1: every input gets a result or one numbered refusal (from the chooser, an empty part), and what is lent is
--- unaltered after a refusal or a "no plan". That every input may be given follows from `Contracts`. The judge, the
+-- unaltered after a refusal, a "no plan" or the last page. That every input may be given follows from `Contracts`. The judge, the
 -- chooser, the watch, the look-up and the view take values and shared slices, and write nothing; the listing refuses
 -- nothing.
 pub record Demand1 : Type 0 where
@@ -121,10 +127,18 @@ pub record Demand1 : Type 0 where
       (looking slot file ≡ refuses f) ↔ (File·refusal (row Slot (noSlot slot file)) file ≡ some f)
   pub writer : (s : Settings) (los his : List ℤ) (buffer : List ℕ) (f : Refusal) →
       (writing s los his buffer .answer ≡ refuses f) ↔ (writerRefusal s los his buffer ≡ some f)
+  -- so does the paging, with the first of its rows, or with 35 after all of them
+  pub paging : (q : Call) (a : Answer Result) (ms : List ℕ) → Turns q a ms → (f : Refusal) →
+      (a ≡ refuses f) ↔ RefusedWith q f
   -- the filter's promise decides the answer and what all three slices hold
   pub decided : (r : Request) (o p : Outcome) → Keeps r o → Keeps r p → o ≡ p
   pub unaltered : (r : Request) (o : Outcome) → Keeps r o →
       (SaysNoPlan o → Unaltered r o) × ((f : Refusal) → o .answer ≡ refuses f → Unaltered r o)
+  -- so does that of the paging, which leaves the lent slice as it was where it refuses and at the end
+  pub paging-decided : (q : Call) (a b : Answer Result) (ms ks : List ℕ) → Turns q a ms → Turns q b ks →
+      (a ≡ b) × (ms ≡ ks)
+  pub paging-unaltered : (q : Call) (a : Answer Result) (ms : List ℕ) → Turns q a ms →
+      (a ≡ gives no-further → ms ≡ q .request .marks) × ((f : Refusal) → a ≡ refuses f → ms ≡ q .request .marks)
   -- the chooser hands back one of the two plans, to which the judge says yes; or the empty part, exactly where the
   -- judge refuses one of the two or says no to both
   pub chooser : (s : Settings) (loads : List ℤ) (a b r : RefT (List ℕ)) → Chosen s loads a b r → Chooses s loads a b r
@@ -147,6 +161,8 @@ pub record Demand1 : Type 0 where
       KeepsInNumbers r numbers los his ms →
       Means r numbers los his ms
   pub judge-for-c : (s : Settings) (loads : List ℤ) (marks : List ℕ) → VerdictMeans s loads marks
+  pub paging-for-c : (q : Call) (numbers : PageNumbers) (ms : List ℕ) → TurnsInNumbers q numbers ms →
+      PageMeans q numbers ms
   pub reader-for-c : (a : Answer Header) → CodeMeans a (headerNumbers a .code)
   pub look-up-for-c : (a : Answer Range) → CodeMeans a (foundNumbers a .code)
   pub writer-for-c : (a : Answer ℕ) → CodeMeans a (writingNumbers a .code)
@@ -279,6 +295,13 @@ pub record Established : Type 0 where
   pub drawn-with-front : (s : Settings) (cs : List Class) (front : List ℕ) → s .covered .most < sentinel →
       (ms : List ℕ) → FitsAt s cs ms → Begins front ms →
       First (λ ks. FitsAt s cs ks × Begins front ks) (completed s cs front)
+  -- marks are a plan exactly when the judge allows them for the ends of the ranges on their sides
+  pub plans-at-ends : (r : Request) → WellFormed r → (ms : List ℕ) →
+      PlanOf r ms ↔ (allowed (r .settings) (endsFor (ranges r) ms) ms ≡ true)
+  -- the pages of a request are its plans, each once, and no other string, and they come to an end; the first is what the
+  -- filter draws
+  pub pages : Enumerates
+  pub first-page : (r : Request) (o : Outcome) → Filtered r o → (n : PlanCounts) → Says o n → NextPlan r [] (o .marks)
   -- the thrift handed back, measured by WeightedSpringyFOCUS; that loosening may raise it
   pub thrift : (r : Request) (o : Outcome) → Filtered r o → (n : PlanCounts) → Says o n → let s = r .settings in
       TrueThrift r (λ X yc zc S. WeightedSpringyFocus X yc (s .shape .len) (s .shape .h) (s .k) zc S) (n .thrift)
@@ -310,6 +333,8 @@ pub record Contracts : Type 2 where
   -- crates/judge/src/lib.rt and crates/chooser/src/lib.rt
   pub judge : Operation Judge.Statement.statement Judge.signature (λ M 𝓤. Judge.spec 𝓤)
   pub choose : Operation Choose.Statement.statement Choose.signature (λ M 𝓤. Choose.spec 𝓤)
+  -- crates/paging/src/lib.rt
+  pub next-plan : Operation NextPage.Statement.statement NextPage.signature (λ M 𝓤. NextPage.spec 𝓤)
   -- crates/watch/src
   pub start : Operation Start.Statement.statement Start.signature (λ M 𝓤. Start.spec 𝓤)
   pub step : Operation Step.Statement.statement Step.signature (λ M 𝓤. Step.spec 𝓤)
@@ -327,6 +352,7 @@ pub record Contracts : Type 2 where
   -- crates/icecoppice/src
   pub filter-for-c : Operation CFilter.Statement.statement CFilter.signature (λ M 𝓤. CFilter.spec 𝓤)
   pub judge-for-c : Operation CJudge.Statement.statement CJudge.signature (λ M 𝓤. CJudge.spec 𝓤)
+  pub next-plan-for-c : Operation CNextPage.Statement.statement CNextPage.signature (λ M 𝓤. CNextPage.spec 𝓤)
   pub read-for-c : Operation CRead.Statement.statement CRead.signature (λ M 𝓤. CRead.spec 𝓤)
   pub look-up-for-c : Operation CLookUp.Statement.statement CLookUp.signature (λ M 𝓤. CLookUp.spec 𝓤)
   pub write-for-c : Operation CWrite.Statement.statement CWrite.signature (λ M 𝓤. CWrite.spec 𝓤)

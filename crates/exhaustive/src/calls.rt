@@ -1,8 +1,8 @@
 // Calls at and around the limits of document 01's table of refusals, by number. Each digit of a number chooses one part
 // of the call. From the lowest on there are 6 choices of len, 5 of h, 6 of the slots, 3 of the length of the marks, 16
-// of the window range, 16 of the covered range, 3 of the length of the highest loads, and 4 of the crossed slots. The
-// first two digits, with 64 slots, make the starts of a watch; the judge has no highest loads and no crossed slots; the
-// writer has a buffer in place of the marks.
+// of the window range, 16 of the covered range, 3 of the length of the highest loads, 4 of the crossed slots, and 5 of
+// the given plan. The first two digits, with 64 slots, make the starts of a watch; the judge has no highest loads and
+// no crossed slots; the writer has a buffer in place of the marks; only paging has a given plan.
 ghost use Prim.Native.Nat.{_+_, _≤_, _<_};
 use crate::numbers::saturating_sub;
 use rule::Shape;
@@ -16,6 +16,8 @@ pub const JUDGE_CALLS: u32 = 138240;
 // Calls of the filter, and of the writer.
 pub const FILTER_CALLS: u32 = 1658880;
 
+pub const PAGING_CALLS: u32 = 8294400;
+
 // The length of the first slice.
 pub fn slots(call: u32) -> u16
     ensures { λ r. ⌜ r ≤ 65 ⌝ }
@@ -24,8 +26,8 @@ pub fn slots(call: u32) -> u16
         0 => 64,
         1 => 0,
         2 => 1,
-        3 => 2,
-        4 => 3,
+        3 => 12,
+        4 => 13,
         _ => 65,
     }
 }
@@ -47,6 +49,17 @@ pub fn highest_length(call: u32) -> u16
     ensures { λ r. ⌜ r ≤ 66 ⌝ }
 {
     other_length(slots(call), call / 138240 % 3)
+}
+
+// The given plan is also tried with n bytes that are no plan, and empty.
+pub fn given_length(call: u32) -> u16
+    ensures { λ r. ⌜ r ≤ 66 ⌝ }
+{
+    match call / FILTER_CALLS {
+        3 => slots(call),
+        4 => 0,
+        digit => other_length(slots(call), digit),
+    }
 }
 
 fn other_length(n: u16, digit: u32) -> u16
@@ -106,7 +119,7 @@ fn around(limit: u16, digit: u32) -> u16
 pub fn crossed(call: u32) -> u16
     ensures { λ r. ⌜ r ≤ 65 ⌝ }
 {
-    match call / 414720 {
+    match crossing(call) {
         0 => 65,
         1 => 0,
         2 => saturating_sub(slots(call), 1),
@@ -114,11 +127,28 @@ pub fn crossed(call: u32) -> u16
     }
 }
 
+fn crossing(call: u32) -> u32 {
+    call / 414720 % 4
+}
+
 // The lowest loads; all highest loads are 0. Where the slot in the middle is crossed, the next one is crossed too.
 pub fn lowest(call: u32) -> [i32; 67] {
     let slot = crossed(call) as usize;
     let mut loads = [0; 67];
     loads[slot] = 1;
-    loads[slot + 1] = (call / 1244160) as i32;
+    loads[slot + 1] = (crossing(call) / 3) as i32;
     loads
+}
+
+// The bytes of the given plan. Where no slot is crossed all loads are 0, and k too, so that the only plan is 0 at each
+// slot.
+pub fn given(call: u32) -> [u8; 67] {
+    let last = saturating_sub(slots(call), 1) as usize;
+    let mut bytes = [0; 67];
+    bytes[last] = if is_plan_given(call) { 0 } else { 4 };
+    bytes
+}
+
+pub fn is_plan_given(call: u32) -> bool {
+    call / FILTER_CALLS != 3
 }

@@ -1,7 +1,8 @@
 // Counts of comparisons, and the parts of a line of output.
 use libc::STDOUT_FILENO;
 
-// How many were compared, how many of these were planned, judged yes or have a window, and how many differ.
+// How many were compared, how many of these were planned, judged yes, have a window or have a next plan, and how many
+// differ.
 pub struct Tally {
     pub compared: u32,
     pub met: u32,

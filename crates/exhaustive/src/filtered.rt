@@ -101,7 +101,7 @@ fn cut(load: i32, k: i32, bound: i32, keeps: bool, over: bool) -> i32 {
 }
 
 // Whether the first n marks are the same.
-fn same_marks(n: usize, marks: [u8; 8], others: [u8; 8]) -> bool
+pub fn same_marks(n: usize, marks: [u8; 8], others: [u8; 8]) -> bool
     requires { ⌜ n ≤ 8 ⌝ }
 {
     let mut i = 0;

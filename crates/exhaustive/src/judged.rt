@@ -1,5 +1,5 @@
 // Compares the judge with the rule as the search tests it.
-ghost use Prim.Native.Nat.{_≤_};
+ghost use Prim.Native.Nat.{_≤_, _<_};
 use crate::counts::Tally;
 use crate::samples::sample_request;
 use crate::search;
@@ -11,31 +11,35 @@ use settings::Settings;
 // The bytes that are tried as marks.
 const BYTES: [u8; 6] = [0, 1, 2, 3, 4, 255];
 
+// Strings of these bytes by number, in the same order as strings of marks. Those of n bytes, which are at most 4, go
+// from 0 to below this end, by a step.
+pub const STRINGS: usize = 1296;
+
+pub fn step(n: u16) -> usize
+    ensures { λ r. ⌜ (0 < r) × (r ≤ 216) ⌝ }
+{
+    match n {
+        1 => 216,
+        2 => 36,
+        3 => 6,
+        _ => 1,
+    }
+}
+
 // Tries every string of bytes as marks for the loads of a request, each of which is over or under.
 pub fn compare(before: Tally, n: u16, number: usize) -> Tally
     requires { ⌜ n ≤ 8 ⌝ }
 {
     let request = sample_request(n, 1, number);
     let loads = request.lowest;
-    let strings = strings_of(n);
+    let step = step(n);
     let mut tally = before;
     let mut string = 0;
-    while string < strings {
+    while string < STRINGS {
         tally = compare_plan(tally, request.settings, n as usize, loads, bytes_of(string));
-        string += 1;
+        string += step;
     }
     tally
-}
-
-// How many strings of bytes there are for n slots.
-fn strings_of(n: u16) -> usize {
-    match n {
-        1 => 6,
-        2 => 36,
-        3 => 216,
-        4 => 1296,
-        _ => 0,
-    }
 }
 
 fn compare_plan(
@@ -65,13 +69,13 @@ fn agrees(verdict: Verdict, yes: bool, n: usize, marks: [u8; 8]) -> bool
     }
 }
 
-// The bytes that the digits of a number in base 6 stand for.
-fn bytes_of(string: usize) -> [u8; 8] {
+// The bytes that the four lowest digits of a number in base 6 stand for. That of slot 0 is the highest of them.
+pub fn bytes_of(string: usize) -> [u8; 8] {
     [
-        byte_of(string),
-        byte_of(string / 6),
-        byte_of(string / 36),
         byte_of(string / 216),
+        byte_of(string / 36),
+        byte_of(string / 6),
+        byte_of(string),
         0,
         0,
         0,

@@ -1,10 +1,12 @@
-// Compares refusals by the filter, the judge, the writer and the start of a watch with document 01's table, as table.rt
-// has it.
-ghost use Prim.Native.Nat.{_≤_};
+// Compares refusals by the filter, the judge, the writer, paging and the start of a watch with document 01's table, as
+// table.rt has it.
+ghost use Prim.Native.Nat.{_≤_, _<_};
 use crate::answers::UNTOUCHED;
 use crate::answers::outcome_of;
 use crate::calls::buffer_length;
 use crate::calls::crossed;
+use crate::calls::given;
+use crate::calls::given_length;
 use crate::calls::highest_length;
 use crate::calls::lowest;
 use crate::calls::marks_length;
@@ -15,11 +17,14 @@ use crate::counts::add;
 use crate::counts::end_line;
 use crate::counts::write;
 use crate::counts::write_count;
+use crate::table::paging_refusal;
 use crate::table::refusal;
 use crate::table::writer_refusal;
 use filter::filter;
 use judge::Verdict;
 use judge::judge;
+use paging::Page;
+use paging::next_plan;
 use settings::Settings;
 use watch::Started;
 use watch::Watch;
@@ -31,6 +36,7 @@ pub enum Operation {
     Judge,
     Start,
     Writer,
+    Paging,
 }
 
 // A refusal's number, or 0, the slot of refusal 31, and whether the lent slices hold what they held before.
@@ -40,31 +46,46 @@ struct Refused {
     unaltered: bool,
 }
 
-// The numbers whose counts are printed; 0 stands for no refusal.
-const NUMBERS: [u32; 9] = [21, 22, 23, 24, 25, 26, 31, 18, 0];
+// The numbers whose counts are printed, in the order of the table; 0 stands for no refusal.
+const NUMBERS: [u32; 11] = [21, 22, 34, 23, 24, 25, 26, 31, 18, 35, 0];
 
 // Compares the calls whose number is below end, prints a line, and gives whether all agree.
 pub fn run(operation: Operation, end: u32) -> bool {
-    let mut met: [u32; 32] = [0; 32];
+    let step = step(operation);
+    let mut met: [u32; 36] = [0; 36];
+    let mut calls = 0;
     let mut differ = 0;
-    let mut call = 0;
-    while call < end {
+    let mut i: usize = 0;
+    while i < end as usize {
+        let call = i as u32;
         let number = expected(operation, call);
         met[number as usize] = add(met[number as usize], true);
+        calls = add(calls, true);
         differ = add(differ, !agrees(operation, call, number));
-        call += 1;
+        i += step;
     }
     write_operation(operation);
-    write_count(end);
+    write_count(calls);
     write_met(met);
     end_line(differ);
     differ == 0
 }
 
-fn expected(operation: Operation, call: u32) -> u16
-    ensures { λ r. ⌜ r ≤ 31 ⌝ }
+// The calls of paging are only sampled. The step has no factor in common with how many numbers there are.
+fn step(operation: Operation) -> usize
+    ensures { λ r. ⌜ (0 < r) × (r ≤ 7) ⌝ }
 {
     match operation {
+        Operation::Paging => 7,
+        _ => 1,
+    }
+}
+
+fn expected(operation: Operation, call: u32) -> u16
+    ensures { λ r. ⌜ r ≤ 35 ⌝ }
+{
+    match operation {
+        Operation::Paging => paging_refusal(call),
         Operation::Writer => writer_refusal(call),
         _ => refusal(call),
     }
@@ -76,6 +97,7 @@ fn agrees(operation: Operation, call: u32, number: u16) -> bool {
         Operation::Judge => judged(call) == number,
         Operation::Start => started(call) == number,
         Operation::Writer => writer_agrees(call, number),
+        Operation::Paging => paging_agrees(call, number),
     }
 }
 
@@ -156,11 +178,7 @@ fn written(settings: Settings, n: usize, others: usize, size: usize, loads: [i32
             slot: refusal.slot(),
             unaltered: is_untouched(buffer, 0),
         },
-        Writing::Stored { length } => Refused {
-            number: if is_stored(length, n, buffer) { 0 } else { 1 },
-            slot: 0,
-            unaltered: false,
-        },
+        Writing::Stored { length } => answered(is_stored(length, n, buffer)),
     }
 }
 
@@ -179,6 +197,62 @@ fn is_untouched(buffer: [u8; 538], from: usize) -> bool {
         i += 1;
     }
     true
+}
+
+fn paging_agrees(call: u32, number: u16) -> bool {
+    let refused = paged(
+        settings(call),
+        slots(call) as usize,
+        highest_length(call) as usize,
+        given_length(call) as usize,
+        marks_length(call) as usize,
+        lowest(call),
+        given(call),
+    );
+    is_expected(refused, call, number)
+}
+
+// The only plan follows the empty slice, and after it there is none. Any other answer that is no refusal counts as a
+// refusal with 1.
+fn paged(
+    settings: Settings,
+    n: usize,
+    others: usize,
+    length: usize,
+    marked: usize,
+    loads: [i32; 67],
+    given: [u8; 67],
+) -> Refused
+    requires { ⌜ (n ≤ 65) × (others ≤ 66) × (length ≤ 66) × (marked ≤ 66) ⌝ }
+{
+    let highest = [0; 67];
+    let mut marks = [UNTOUCHED; 67];
+    let page = next_plan(
+        settings,
+        &loads[..n],
+        &highest[..others],
+        &given[..length],
+        &mut marks[..marked],
+    );
+    let unaltered = is_unaltered(loads, loads, highest, marks);
+    match page {
+        Page::Refused(refusal) => Refused {
+            number: refusal.number(),
+            slot: refusal.slot(),
+            unaltered,
+        },
+        Page::Next => answered(length == 0),
+        Page::End => answered((length > 0) & unaltered),
+    }
+}
+
+// An answer that is no refusal.
+fn answered(right: bool) -> Refused {
+    Refused {
+        number: if right { 0 } else { 1 },
+        slot: 0,
+        unaltered: false,
+    }
 }
 
 fn judged(call: u32) -> u16 {
@@ -207,19 +281,24 @@ fn write_operation(operation: Operation) {
         Operation::Judge => write(b"judge calls"),
         Operation::Start => write(b"watch starts"),
         Operation::Writer => write(b"writer calls"),
+        Operation::Paging => write(b"paging calls"),
     }
 }
 
-fn write_met(met: [u32; 32]) {
+fn write_met(met: [u32; 36]) {
     write(b" met");
     let mut i = 0;
-    while i < 9 {
+    while i < 11 {
         write_number(NUMBERS[i], met);
         i += 1;
     }
 }
 
-fn write_number(number: u32, met: [u32; 32]) {
-    write_count(number);
-    write_count(met[number as usize % 32]);
+// A number that is not met is left out.
+fn write_number(number: u32, met: [u32; 36]) {
+    let count = met[number as usize % 36];
+    if count > 0 {
+        write_count(number);
+        write_count(count);
+    }
 }

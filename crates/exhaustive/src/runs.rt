@@ -7,6 +7,7 @@ use crate::counts::write_count;
 use crate::filtered;
 use crate::judged;
 use crate::loosened;
+use crate::paged;
 use crate::samples::is_accepted;
 use crate::settled;
 use crate::watched;
@@ -18,6 +19,7 @@ pub enum Kind {
     Watched,
     Loosened,
     Settled,
+    Paged,
 }
 
 // How many numbers there are for n slots: strings of three classes, times (n + 1)^4 for len, h and both maximums.
@@ -86,8 +88,8 @@ fn numbers(kind: Kind, n: u16) -> u32
     }
 }
 
-// Of the requests with open slots, those of more than 5 slots are only sampled. The step has no factor in common with
-// how many numbers there are.
+// Of the requests with open slots, those of more than 5 slots are only sampled, for paging those of more than 4. The
+// step has no factor in common with how many numbers there are.
 fn step(kind: Kind, n: u16) -> usize
     requires { ⌜ n ≤ 8 ⌝ }
     ensures { λ r. ⌜ (0 < r) × (r < 4294967296) ⌝ }
@@ -95,10 +97,25 @@ fn step(kind: Kind, n: u16) -> usize
     if let Kind::Watched = kind {
         return 1;
     }
+    if let Kind::Paged = kind {
+        return paged_step(n);
+    }
     match n {
         6 => 101,
         7 => 1009,
         8 => 7703,
+        _ => 1,
+    }
+}
+
+fn paged_step(n: u16) -> usize
+    ensures { λ r. ⌜ (0 < r) × (r < 4294967296) ⌝ }
+{
+    match n {
+        5 => 11,
+        6 => 1009,
+        7 => 50021,
+        8 => 1000003,
         _ => 1,
     }
 }
@@ -133,6 +150,7 @@ fn compare(tally: Tally, kind: Kind, n: u16, number: usize) -> Tally
         Kind::Watched => watched::compare(tally, n, number),
         Kind::Loosened => loosened::compare(tally, n, number),
         Kind::Settled => settled::compare(tally, n, number),
+        Kind::Paged => paged::compare(tally, n, number),
     }
 }
 
@@ -154,6 +172,7 @@ fn write_kind(kind: Kind) {
         Kind::Watched => write(b"watches"),
         Kind::Loosened => write(b"loosenings"),
         Kind::Settled => write(b"settlings"),
+        Kind::Paged => write(b"pages"),
     }
 }
 
@@ -161,6 +180,7 @@ fn write_met(kind: Kind) {
     match kind {
         Kind::Judged => write(b" yes"),
         Kind::Watched => write(b" with windows"),
+        Kind::Paged => write(b" next"),
         _ => write(b" planned"),
     }
 }

@@ -18,8 +18,26 @@ pub struct Found {
     pub over: usize,
 }
 
-// Looks at all strings of n marks, for the first n ranges, in the order of document 02's T-03: marks are compared slot
-// by slot from slot 0, smaller mark first.
+// Strings of marks by number, in the order of document 02's T-03: marks are compared slot by slot from slot 0, smaller
+// mark first. Those of n marks go from 0 to below this end, by a step.
+pub const STRINGS: usize = 65536;
+
+pub fn step(n: u16) -> usize
+    ensures { λ r. ⌜ (0 < r) × (r ≤ 16384) ⌝ }
+{
+    match n {
+        1 => 16384,
+        2 => 4096,
+        3 => 1024,
+        4 => 256,
+        5 => 64,
+        6 => 16,
+        7 => 4,
+        _ => 1,
+    }
+}
+
+// Looks at all strings of n marks, in their order, for the first n ranges.
 pub fn search(settings: Settings, n: usize, lowest: [i32; 8], highest: [i32; 8]) -> Found
     requires { ⌜ n ≤ 8 ⌝ }
 {
@@ -32,20 +50,20 @@ pub fn search(settings: Settings, n: usize, lowest: [i32; 8], highest: [i32; 8])
         under: 0,
         over: 0,
     };
-    let strings = 1usize << (2 * n);
+    let step = step(n as u16);
     let mut string = 0;
-    while string < strings {
-        let marks = marks_of(string << (16 - 2 * n));
+    while string < STRINGS {
+        let marks = marks_of(string);
         if is_plan(settings, n, lowest, highest, marks) {
             found = with(found, n, marks);
         }
-        string += 1;
+        string += step;
     }
     found
 }
 
 // The eight lowest digits of a number in base 4, as marks. That of slot 0 is the highest of them.
-fn marks_of(string: usize) -> [u8; 8] {
+pub fn marks_of(string: usize) -> [u8; 8] {
     [
         (string / 16384 % 4) as u8,
         (string / 4096 % 4) as u8,

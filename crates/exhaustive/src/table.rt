@@ -1,9 +1,11 @@
-// Document 01's table "Where each refusal is checked", for its places lengths, settings and slots. No function of the
-// planner is used here.
+// Document 01's table "Where each refusal is checked", for its places lengths, settings and slots, with the rows of
+// document 02's T-01 and T-05. No function of the planner is used here.
 ghost use Prim.Native.Nat.{_≤_};
 use crate::calls::buffer_length;
 use crate::calls::crossed;
+use crate::calls::given_length;
 use crate::calls::highest_length;
+use crate::calls::is_plan_given;
 use crate::calls::marks_length;
 use crate::calls::settings;
 use crate::calls::slots;
@@ -17,7 +19,7 @@ pub fn refusal(call: u32) -> u16
     request_refusal(call, marks_length(call) != slots(call))
 }
 
-// The same for a call of the writer: 18, of document 02's T-01, comes last.
+// The same for a call of the writer: 18 comes last.
 pub fn writer_refusal(call: u32) -> u16
     ensures { λ r. ⌜ r ≤ 31 ⌝ }
 {
@@ -28,9 +30,42 @@ pub fn writer_refusal(call: u32) -> u16
     number
 }
 
+// The same for a call of paging: 22 exempts an empty given slice, 34 comes right after 22, and 35 comes last.
+pub fn paging_refusal(call: u32) -> u16
+    ensures { λ r. ⌜ r ≤ 35 ⌝ }
+{
+    let n = slots(call);
+    let given = given_length(call);
+    let wrong = wrong_lengths(
+        call,
+        (marks_length(call) != n) | ((given != n) & (given != 0)),
+    );
+    if wrong > 0 {
+        return wrong;
+    }
+    if n > 12 {
+        return 34;
+    }
+    let number = wrong_contents(call);
+    if (number == 0) & !is_plan_given(call) {
+        return 35;
+    }
+    number
+}
+
 // `different` says whether a slice other than the loads has another length.
 fn request_refusal(call: u32, different: bool) -> u16
     ensures { λ r. ⌜ r ≤ 31 ⌝ }
+{
+    let wrong = wrong_lengths(call, different);
+    if wrong > 0 {
+        return wrong;
+    }
+    wrong_contents(call)
+}
+
+fn wrong_lengths(call: u32, different: bool) -> u16
+    ensures { λ r. ⌜ r ≤ 22 ⌝ }
 {
     let n = slots(call);
     if (n == 0) | (n > 64) {
@@ -39,6 +74,14 @@ fn request_refusal(call: u32, different: bool) -> u16
     if (highest_length(call) != n) | different {
         return 22;
     }
+    0
+}
+
+// The settings and the slots.
+fn wrong_contents(call: u32) -> u16
+    ensures { λ r. ⌜ r ≤ 31 ⌝ }
+{
+    let n = slots(call);
     let wrong = wrong_settings(settings(call), n);
     if wrong > 0 {
         return wrong;

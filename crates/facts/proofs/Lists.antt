@@ -10,11 +10,15 @@ use mathlib.Core.Logic.{⊎-elim}
 use mathlib.Core.Path.{_≡_, refl, sym, ap, _∙_, subst}
 use borrow.Author.Tests.{leb-true, leb-false}
 use lib.Dec.{leb}
-use lib.ListN.{length, drop, getD, set, drop-of-length-le}
-use lib.Seq.{drop-cons, getD-set-same, getD-set-other, set-out, sets, sets-eq}
+use lib.ListN.{length, take, drop, getD, set, drop-of-length-le}
+use lib.Seq.{take-suc, take-suc-set, drop-cons, getD-set-same, getD-set-other, set-out, sets, sets-eq}
 
 pub uncons : {A : Type 0} (l : List A) (i : ℕ) (d : A) → i < length l → drop i l ≡ getD l i d ∷ drop (i + 1) l
 uncons l i d bound = rw add-one (drop-cons l i d bound)
+
+pub no-length : {A : Type 0} (l : List A) → length l ≡ 0 → l ≡ []
+no-length [] e = refl
+no-length (x ∷ xs) e = absurd (omega arith)
 
 -- what stands at a place of the list is the same whatever else would be given
 pub getD-any : {A : Type 0} (l : List A) (i : ℕ) (d e : A) → i < length l → getD l i d ≡ getD l i e
@@ -36,6 +40,12 @@ written-before P l i v d e before here j b =
     (λ s. subst (λ j. P j (getD (set l i v) j d)) (sym s) (subst (P i) (sym (getD-set-same l i v d e)) here))
     (λ b. subst (P j) (sym (getD-set-other l i j v d (omega (arith, b)))) (before j b))
     (eq-or-lt-of-le most)
+
+-- a list that agrees with t before place i, and with what t has there written to place i, agrees with t before i + 1
+pub take-set-next : {A : Type 0} (l t : List A) (i : ℕ) (v d : A) → i < length l → i < length t → take i l ≡ take i t →
+    v ≡ getD t i d → take (i + 1) (set l i v) ≡ take (i + 1) t
+take-set-next l t i v d e f same here =
+    rw add-one (take-suc-set l i v e ∙ rw (same, here) (sym (take-suc t i d f)))
 
 -- what fits is at the front, and the rest of the list is as it was
 pub sets-front : (t l : List ℕ) → length t ≤ length l → sets l 0 t ≡ t ++ drop (length t) l

@@ -1,3 +1,4 @@
 pub mod CodeMeans
 pub mod Means
+pub mod PageMeans
 pub mod WatchMeans

@@ -1,3 +1,4 @@
 pub mod FileNumbers
 pub mod Numbers
+pub mod PageNumbers
 pub mod WatchNumbers

@@ -1,5 +1,5 @@
-// The filter, the judge, the reader, the look-up, the writer and the watch for C, on numbers and slices, under names
-// that begin with `icecoppice_`. include/icecoppice.h declares them.
+// The filter, the judge, the paging, the reader, the look-up, the writer and the watch for C, on numbers and slices,
+// under names that begin with `icecoppice_`. include/icecoppice.h declares them.
 ghost use mathlib.Core.Path.{_≡_};
 ghost use Rattle.judge.specs.Judgment.{judgment, meaning as Verdict·meaning};
 ghost use Rattle.filter.specs.AnswerMeaning.{meaning as Answer·meaning};
@@ -15,6 +15,7 @@ use settings::CountRange;
 use settings::Settings;
 
 mod files;
+mod pages;
 mod watches;
 
 pub use files::FoundNumbers;
@@ -23,6 +24,8 @@ pub use files::WritingNumbers;
 pub use files::icecoppice_look_up;
 pub use files::icecoppice_read;
 pub use files::icecoppice_write;
+pub use pages::PageNumbers;
+pub use pages::icecoppice_next_plan;
 pub use watches::StartNumbers;
 pub use watches::StepNumbers;
 pub use watches::icecoppice_watch_start;

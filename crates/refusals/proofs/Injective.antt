@@ -10,6 +10,7 @@ use Rattle.refusals.specs.declared.Refusal.{Refusal}
 use Rattle.refusals.specs.declared.Refusal.the-variants.{Size, End, Form, Slots, Distance, Records, Lent, Buffer}
 use Rattle.refusals.specs.declared.Refusal.the-variants.{Slot, FirstLength, OtherLength, WindowLength, Bridges}
 use Rattle.refusals.specs.declared.Refusal.the-variants.{WindowCounts, CoveredCounts, Crossed, Unreached, Full}
+use Rattle.refusals.specs.declared.Refusal.the-variants.{PagedSlots, GivenPlan}
 
 abbrev refusalAt : (number slot : ℕ) → Refusal
 refusalAt n i =
@@ -29,7 +30,9 @@ refusalAt n i =
     (cond (eqb n 25) WindowCounts
     (cond (eqb n 26) CoveredCounts
     (cond (eqb n 31) (Crossed i)
-    (cond (eqb n 32) Unreached Full))))))))))))))))
+    (cond (eqb n 32) Unreached
+    (cond (eqb n 33) Full
+    (cond (eqb n 34) PagedSlots GivenPlan))))))))))))))))))
 
 refusalAt-number-slot : (r : Refusal) → refusalAt (number r) (slot r) ≡ r
 refusalAt-number-slot Size = refl
@@ -50,6 +53,8 @@ refusalAt-number-slot CoveredCounts = refl
 refusalAt-number-slot (Crossed i) = refl
 refusalAt-number-slot Unreached = refl
 refusalAt-number-slot Full = refl
+refusalAt-number-slot PagedSlots = refl
+refusalAt-number-slot GivenPlan = refl
 
 -- no two refusals share both the number and the slot
 pub number-slot-injective : (q r : Refusal) → number q ≡ number r → slot q ≡ slot r → q ≡ r
@@ -74,3 +79,5 @@ eleven-le-number CoveredCounts = omega arith
 eleven-le-number (Crossed i) = omega arith
 eleven-le-number Unreached = omega arith
 eleven-le-number Full = omega arith
+eleven-le-number PagedSlots = omega arith
+eleven-le-number GivenPlan = omega arith

@@ -1,10 +1,11 @@
--- The number of each refusal (document 01, "Where each refusal is checked"; 18 is of document 02, T-01), and the slot
--- that 31 carries.
+-- The number of each refusal (document 01, "Where each refusal is checked"; 18 is of document 02, T-01, and 34 and 35
+-- are of T-05), and the slot that 31 carries.
 use Prim.Native.Nat.{ℕ}
 use Rattle.refusals.specs.declared.Refusal.{Refusal}
 use Rattle.refusals.specs.declared.Refusal.the-variants.{Size, End, Form, Slots, Distance, Records, Lent, Buffer}
 use Rattle.refusals.specs.declared.Refusal.the-variants.{Slot, FirstLength, OtherLength, WindowLength, Bridges}
 use Rattle.refusals.specs.declared.Refusal.the-variants.{WindowCounts, CoveredCounts, Crossed, Unreached, Full}
+use Rattle.refusals.specs.declared.Refusal.the-variants.{PagedSlots, GivenPlan}
 
 abbrev pub number : Refusal → ℕ
 number Size = 11
@@ -25,6 +26,8 @@ number CoveredCounts = 26
 number (Crossed i) = 31
 number Unreached = 32
 number Full = 33
+number PagedSlots = 34
+number GivenPlan = 35
 
 -- 0 where a refusal carries no slot
 abbrev pub slot : Refusal → ℕ
@@ -46,3 +49,5 @@ slot CoveredCounts = 0
 slot (Crossed i) = i
 slot Unreached = 0
 slot Full = 0
+slot PagedSlots = 0
+slot GivenPlan = 0

@@ -4,7 +4,7 @@ ghost use Rattle.refusals.specs.Numbers.{number as Numbers·number, slot
 
 // Every refusal, by its number: of a file on the card (11 to 17, then 19), of the writer's buffer (18), of lengths and
 // settings (21 to 26), of slots (31, which carries the first slot whose lowest load is above its highest), of a step of
-// the watch (32, then 33).
+// the watch (32, then 33), of the plans of a request as they are paged through (34, then 35).
 pub enum Refusal {
     Size,
     End,
@@ -24,6 +24,8 @@ pub enum Refusal {
     Crossed(usize),
     Unreached,
     Full,
+    PagedSlots,
+    GivenPlan,
 }
 
 // What a check gives: all passed, or the first refusal that applies.
@@ -55,6 +57,8 @@ impl Refusal {
             Refusal::Crossed(_) => 31,
             Refusal::Unreached => 32,
             Refusal::Full => 33,
+            Refusal::PagedSlots => 34,
+            Refusal::GivenPlan => 35,
         }
     }
 

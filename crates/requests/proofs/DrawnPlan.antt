@@ -179,6 +179,16 @@ module _ (T : ℕ) (shape : Shape) where
   drawnFrom-length [] front m w c = refl
   drawnFrom-length (x ∷ cs) front m w c = ap suc (drawnFrom-length cs _ _ _ _)
 
+  -- what is drawn begins with the front, if there are slots for it
+  pub drawnFrom-begins : (cs : List Class) (front : List ℕ) (m w c : ℕ) → length front ≤ length cs →
+      Begins front (drawnFrom T shape cs front m w c)
+  unfolding drawnFrom
+  drawnFrom-begins cs [] m w c few = (drawnFrom T shape cs [] m w c, refl)
+  drawnFrom-begins [] (f ∷ front) m w c few = absurd (omega arith)
+  drawnFrom-begins (x ∷ cs) (f ∷ front) m w c few =
+      let (rest, e) = drawnFrom-begins cs front f (leftOf w (eqb f 1)) (leftOf c (not (eqb f 0))) (omega arith) in
+      (rest, ap (λ ms. f ∷ ms) e)
+
   -- the marks from a slot of class x on, with its own mark given
   abbrev fromMark : List Class → (next w c : ℕ) → List ℕ
   fromMark cs next w c = next ∷ drawnFrom T shape cs [] next (leftOf w (eqb next 1)) (leftOf c (not (eqb next 0)))

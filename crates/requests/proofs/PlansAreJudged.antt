@@ -6,14 +6,16 @@ use mathlib.Core.Logic.{_↔_}
 use mathlib.Core.Path.{_≡_, sym, subst}
 use Rattle.judge.proofs.Allowed.{Allowed, allowed-iff, allowed→yes, yes→allowed}
 use Rattle.refusals.specs.Answer.{gives}
-use Rattle.judge.specs.Judgment.{says, judgment}
+use Rattle.judge.specs.Judgment.{says, allowed, judgment}
 use Rattle.rule.proofs.LegalFrom.{legal-length}
-use Rattle.rule.specs.Rule.{carries, windows, covered}
+use Rattle.rule.proofs.Ranges.{legalFor-iff-ends}
+use Rattle.rule.specs.Ranges.{endsFor}
+use Rattle.rule.specs.Rule.{carries, legal, windows, covered}
 use Rattle.settings.proofs.Accepted.{Accepted, accepted-iff, differs-false}
 use Rattle.settings.specs.declared.Settings.{Settings}
 use Rattle.requests.proofs.Formed.{Formed, formed-iff, chosen-slots}
 use Rattle.requests.specs.Promise.{YesFor}
-use Rattle.requests.specs.Request.{Request, ranges, WellFormed, PlanOf}
+use Rattle.requests.specs.Request.{Request, ranges, WellFormed, LegalIn, PlanOf}
 
 module _ (r : Request) (good : Formed r) (ms : List ℕ) where
   abbrev s : Settings
@@ -40,6 +42,31 @@ module _ (r : Request) (good : Formed r) (ms : List ℕ) where
         windows-fit = a .windows-fit;
         covered-fit = a .covered-fit;
       }
+
+-- for the ends of the ranges on the marks' sides, if for any
+pub plan-iff-ends : (r : Request) → Formed r → (ms : List ℕ) →
+    PlanOf r ms ↔ (allowed (r .settings) (endsFor (ranges r) ms) ms ≡ true)
+plan-iff-ends r good ms = (to-ends, from-ends)
+  where
+    legal-at : LegalIn r ms ↔ (legal (r .settings .k) (r .settings .shape) (endsFor (ranges r) ms) ms ≡ true)
+    legal-at = legalFor-iff-ends (r .settings .k) (r .settings .shape) (ranges r) ms (good .proper)
+
+    to-ends : PlanOf r ms → allowed (r .settings) (endsFor (ranges r) ms) ms ≡ true
+    to-ends p =
+        allowed-iff .1 (record {
+          in-rule = legal-at .0 (p .in-rule);
+          windows-fit = p .windows-fit;
+          covered-fit = p .covered-fit;
+        })
+
+    from-ends : allowed (r .settings) (endsFor (ranges r) ms) ms ≡ true → PlanOf r ms
+    from-ends e =
+        let a : Allowed (r .settings) (endsFor (ranges r) ms) ms = allowed-iff .0 e in
+        record {
+          in-rule = legal-at .1 (a .in-rule);
+          windows-fit = a .windows-fit;
+          covered-fit = a .covered-fit;
+        }
 
 pub plan-iff-yes : (r : Request) → WellFormed r → (ms : List ℕ) → PlanOf r ms ↔ YesFor (r .settings) (ranges r) ms
 plan-iff-yes r w ms = (to r (formed-iff .0 w) ms, from r (formed-iff .0 w) ms)

@@ -1,16 +1,23 @@
--- The first of the marks that a property holds of: there is only one, and it is the same for the same marks.
-use Prim.Native.Nat.{ℕ}
+-- The order of marks, and the first of the marks that a property holds of: there is only one, and it is the same for the
+-- same marks.
+use Prim.Native.Nat.{ℕ, _≤_}
 use native.Mathlib.Omega.{arith}
-use mathlib.Core.List.{List, _∷_}
+use mathlib.Core.List.{List, [], _∷_}
 use mathlib.Core.Logic.{_⊎_, inl, inr}
 use mathlib.Core.Path.{_≡_, sym, ap}
-use Rattle.rule.specs.Order.{_≺_, smaller, level, First}
+use lib.ListN.{length}
+use Rattle.rule.specs.Order.{_≺_, ended, smaller, level, First}
 
 ≺-asym : {ms ks : List ℕ} → ms ≺ ks → ks ≺ ms → ⊥
 ≺-asym (smaller e) (smaller f) = omega arith
 ≺-asym (smaller e) (level f) = omega arith
 ≺-asym (level e) (smaller f) = omega arith
 ≺-asym (level e) (level f) = ≺-asym e f
+
+-- no marks come before any
+pub none-before : (ms : List ℕ) → 1 ≤ length ms → [] ≺ ms
+none-before [] some = absurd (omega arith)
+none-before (m ∷ ms) some = ended
 
 pub first-unique : {P : List ℕ → Type 0} {ms ks : List ℕ} → First P ms → First P ks → ms ≡ ks
 first-unique {ms = ms} {ks = ks} a b = by (a .first ks (b .holds)) (b .first ms (a .holds))

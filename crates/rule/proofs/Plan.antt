@@ -4,13 +4,14 @@
 -- A slot may be of any type, given which marks it may carry (`May`), so that loads, ranges and classes all serve as
 -- slots. A window has a first slot and at most `laterSlots` more, with at most h bridges. Between two windows lie at
 -- least `settle` uncovered slots: 0 in document 01, where windows may touch.
-use Prim.Native.Nat.{ℕ, zero, suc, _+_, _-_, _≤_}
+use Prim.Native.Nat.{ℕ, zero, suc, _+_, _-_, _≤_, _<_}
 use native.Mathlib.Omega.{arith}
 use mathlib.Core.Bool.{Bool, true, false, cond, false≢true}
 use mathlib.Core.List.{List, [], _∷_}
 use mathlib.Core.Path.{_≡_, refl, sym, _∙_, subst}
 use borrow.Author.Tests.{ne-eqb}
 use lib.Dec.{eqb}
+use lib.ListN.{getD}
 use Rattle.rule.proofs.MarkKinds.{Kind, kind, uncovered, opening, later, bridge, above, follows-outside}
 use Rattle.rule.proofs.MarkKinds.{follows-inside, inside-not-after-0, above-3-follows-none}
 use Rattle.rule.proofs.LegalFrom.{WithinSoFar, Passes, LegalFrom, start, legal→from, from→legal}
@@ -82,6 +83,19 @@ module _ {A : Type 0} (May : ℕ → A → Type 0) (settle laterSlots h : ℕ) w
   plan-with-tail (close {r = r} {b = b} p) t = close (closed-with-tail r b refl p t)
   plan-with-tail (more {r = r} a p) t = more a (rw (suc-sub-one r) at t)
   plan-with-tail (bridges {r = r} {b = b} a p) t = bridges a (rw (suc-sub-one r, suc-sub-one b) at t)
+
+  -- no mark is above 3
+  pub plan-marks : {st : State} {xs : List A} {ms : List ℕ} → Plan st xs ms → (i : ℕ) → getD ms i 0 < 4
+  plan-marks done i = omega arith
+  plan-marks (skip a p) zero = omega arith
+  plan-marks (skip a p) (suc i) = plan-marks p i
+  plan-marks (opens a p) zero = omega arith
+  plan-marks (opens a p) (suc i) = plan-marks p i
+  plan-marks (close p) i = plan-marks p i
+  plan-marks (more a p) zero = omega arith
+  plan-marks (more a p) (suc i) = plan-marks p i
+  plan-marks (bridges a p) zero = omega arith
+  plan-marks (bridges a p) (suc i) = plan-marks p i
 
 -- the last mark of a window under way, by whether the window may close after it
 data LastMark : Bool → ℕ → Type 0 where

@@ -1,20 +1,20 @@
--- `exhaustive::judged::compare` is safe and ends: it counts up to the number of strings.
-use Prim.Native.Nat.{_≤_, _-_}
+-- `exhaustive::judged::compare` is safe and ends: it goes up to the end by steps above 0.
+use Prim.Native.Nat.{_≤_, _-_, _<_}
 use borrow.Author.Needs.{needs}
 use Rattle.exhaustive.proofs.judged.compare.Statement.{statement}
 use Rattle.exhaustive.proofs.judged.compare.Tie as tie
 
 abbrev Inv-loop : tie.InvT-loop
-Inv-loop n number request loads strings tally₀ string₀ tally string = string ≤ strings
+Inv-loop n number request loads step tally₀ string₀ tally string = (0 < step) × (step ≤ 216)
 
 abbrev μ-loop : tie.MeasureT-loop
-μ-loop n number request loads strings tally₀ string₀ tally string = strings - string
+μ-loop n number request loads step tally₀ string₀ tally string = 1296 - string
 
 sample-request-requires : tie.Need-sample-request-requires Inv-loop μ-loop
 sample-request-requires c κs = search needs
 
-strings-of-requires : tie.Need-strings-of-requires Inv-loop μ-loop
-strings-of-requires c κs = search needs
+step-requires : tie.Need-step-requires Inv-loop μ-loop
+step-requires c κs = search needs
 
 loop-holds : tie.Need-loop-holds Inv-loop μ-loop
 loop-holds c = search needs
@@ -44,7 +44,7 @@ compare-spec =
     Inv-loop
     μ-loop
     sample-request-requires
-    strings-of-requires
+    step-requires
     loop-holds
     bytes-of-requires
     compare-plan-requires

@@ -1,5 +1,5 @@
--- `exhaustive::refused::run` is safe and ends: it counts up to the end.
-use Prim.Native.Nat.{_≤_, _-_}
+-- `exhaustive::refused::run` is safe and ends: it goes up to the end by steps above 0.
+use Prim.Native.Nat.{_≤_, _-_, _<_}
 use mathlib.Core.Path.{_≡_}
 use borrow.Author.Needs.{needs}
 use lib.ListN.{length}
@@ -7,13 +7,19 @@ use Rattle.exhaustive.proofs.refused.run.Statement.{statement}
 use Rattle.exhaustive.proofs.refused.run.Tie as tie
 
 abbrev Inv-loop : tie.InvT-loop
-Inv-loop operation end met₀ differ₀ call₀ met differ call = (call ≤ end) × (length met ≡ 32)
+Inv-loop operation end step met₀ calls₀ differ₀ i₀ met calls differ i = (0 < step) × (step ≤ 7) × (length met ≡ 36)
 
 abbrev μ-loop : tie.MeasureT-loop
-μ-loop operation end met₀ differ₀ call₀ met differ call = end - call
+μ-loop operation end step met₀ calls₀ differ₀ i₀ met calls differ i = end - i
+
+step-requires : tie.Need-step-requires Inv-loop μ-loop
+step-requires c κs = search needs
 
 loop-holds : tie.Need-loop-holds Inv-loop μ-loop
 loop-holds c = search needs
+
+cast-call : tie.Need-cast-call Inv-loop μ-loop
+cast-call c = search needs
 
 expected-requires : tie.Need-expected-requires Inv-loop μ-loop
 expected-requires c κs = search needs
@@ -39,14 +45,17 @@ mul-met c = search needs
 array-write-met : tie.Need-array-write-met Inv-loop μ-loop
 array-write-met c = search needs
 
-agrees-requires : tie.Need-agrees-requires Inv-loop μ-loop
-agrees-requires c κs = search needs
-
 add-requires-2 : tie.Need-add-requires-2 Inv-loop μ-loop
 add-requires-2 c κs = search needs
 
-add-call : tie.Need-add-call Inv-loop μ-loop
-add-call c = search needs
+agrees-requires : tie.Need-agrees-requires Inv-loop μ-loop
+agrees-requires c κs = search needs
+
+add-requires-3 : tie.Need-add-requires-3 Inv-loop μ-loop
+add-requires-3 c κs = search needs
+
+add-i : tie.Need-add-i Inv-loop μ-loop
+add-i c = search needs
 
 loop-less : tie.Need-loop-less Inv-loop μ-loop
 loop-less c = search needs
@@ -75,7 +84,9 @@ run-spec =
     (tie.spec
     Inv-loop
     μ-loop
+    step-requires
     loop-holds
+    cast-call
     expected-requires
     cast-add
     mul-add
@@ -84,9 +95,10 @@ run-spec =
     cast-met
     mul-met
     array-write-met
-    agrees-requires
     add-requires-2
-    add-call
+    agrees-requires
+    add-requires-3
+    add-i
     loop-less
     loop-again
     write-operation-requires

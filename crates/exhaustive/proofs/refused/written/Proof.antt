@@ -45,14 +45,14 @@ enum-known-writing-2 c = search needs
 is-stored-requires : tie.Need-is-stored-requires
 is-stored-requires c κs = search needs
 
+answered-requires : tie.Need-answered-requires
+answered-requires c κs = search needs
+
 returns : tie.Need-returns
 returns c = search needs
 
 returns-2 : tie.Need-returns-2
 returns-2 c = search needs
-
-returns-3 : tie.Need-returns-3
-returns-3 c = search needs
 
 pub written-spec : {M : Type 1} → statement M
 written-spec =
@@ -71,6 +71,6 @@ written-spec =
     is-untouched-requires
     enum-known-writing-2
     is-stored-requires
+    answered-requires
     returns
-    returns-2
-    returns-3)
+    returns-2)

@@ -1,32 +1,23 @@
--- `exhaustive::search::search` is safe and ends: it counts up to the number of strings.
-use Prim.Native.Nat.{_≤_, _-_}
+-- `exhaustive::search::search` is safe and ends: it goes up to the end by steps above 0.
+use Prim.Native.Nat.{_≤_, _-_, _<_}
 use borrow.Author.Needs.{needs}
 use Rattle.exhaustive.proofs.search.search.Statement.{statement}
 use Rattle.exhaustive.proofs.search.search.Tie as tie
 
 abbrev Inv-loop : tie.InvT-loop
-Inv-loop settings n lowest highest found₀ strings string₀ found string = string ≤ strings
+Inv-loop settings n lowest highest found₀ step string₀ found string = (0 < step) × (step ≤ 16384)
 
 abbrev μ-loop : tie.MeasureT-loop
-μ-loop settings n lowest highest found₀ strings string₀ found string = strings - string
+μ-loop settings n lowest highest found₀ step string₀ found string = 65536 - string
 
-mul-strings : tie.Need-mul-strings Inv-loop μ-loop
-mul-strings c = search needs
+cast-step : tie.Need-cast-step Inv-loop μ-loop
+cast-step c = search needs
 
-shl-strings : tie.Need-shl-strings Inv-loop μ-loop
-shl-strings c = search needs
+step-requires : tie.Need-step-requires Inv-loop μ-loop
+step-requires c κs = search needs
 
 loop-holds : tie.Need-loop-holds Inv-loop μ-loop
 loop-holds c = search needs
-
-mul-marks-of : tie.Need-mul-marks-of Inv-loop μ-loop
-mul-marks-of c = search needs
-
-sub-marks-of : tie.Need-sub-marks-of Inv-loop μ-loop
-sub-marks-of c = search needs
-
-shl-marks-of : tie.Need-shl-marks-of Inv-loop μ-loop
-shl-marks-of c = search needs
 
 marks-of-requires : tie.Need-marks-of-requires Inv-loop μ-loop
 marks-of-requires c κs = search needs
@@ -55,12 +46,9 @@ search-spec =
     (tie.spec
     Inv-loop
     μ-loop
-    mul-strings
-    shl-strings
+    cast-step
+    step-requires
     loop-holds
-    mul-marks-of
-    sub-marks-of
-    shl-marks-of
     marks-of-requires
     is-plan-requires
     with-requires

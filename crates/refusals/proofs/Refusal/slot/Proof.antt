@@ -9,6 +9,7 @@ use Rattle.refusals.specs.declared.Refusal.{Refusal}
 use Rattle.refusals.specs.declared.Refusal.the-variants.{Size, End, Form, Slots, Distance, Records, Lent, Buffer}
 use Rattle.refusals.specs.declared.Refusal.the-variants.{Slot, FirstLength, OtherLength, WindowLength, Bridges}
 use Rattle.refusals.specs.declared.Refusal.the-variants.{WindowCounts, CoveredCounts, Crossed, Unreached, Full}
+use Rattle.refusals.specs.declared.Refusal.the-variants.{PagedSlots, GivenPlan}
 use Rattle.refusals.proofs.Refusal.slot.Statement.{statement}
 use Rattle.refusals.proofs.Refusal.slot.Tie as tie
 
@@ -34,10 +35,12 @@ none-carried CoveredCounts n = refl
 none-carried (Crossed i) n = absurd (n refl)
 none-carried Unreached n = refl
 none-carried Full n = refl
+none-carried PagedSlots n = refl
+none-carried GivenPlan n = refl
 
 -- the positions of all variants but that of 31
 abbrev others : List ℕ
-others = 0 ∷ 1 ∷ 2 ∷ 3 ∷ 4 ∷ 5 ∷ 6 ∷ 7 ∷ 8 ∷ 9 ∷ 10 ∷ 11 ∷ 12 ∷ 13 ∷ 14 ∷ 16 ∷ 17 ∷ []
+others = 0 ∷ 1 ∷ 2 ∷ 3 ∷ 4 ∷ 5 ∷ 6 ∷ 7 ∷ 8 ∷ 9 ∷ 10 ∷ 11 ∷ 12 ∷ 13 ∷ 14 ∷ 16 ∷ 17 ∷ 18 ∷ 19 ∷ []
 
 returns-2 : tie.Need-returns-2
 returns-2 c = none-carried (c .before .args .self) (λ e. miss others 15 tt (rw e at (c .match .keys2)))

@@ -1,0 +1,4 @@
+pub mod Paging
+pub mod Pages
+pub mod PageMeaning
+pub mod Parting
