@@ -114,7 +114,7 @@ pub fn settings(line: &[u8]) -> Settings {
     }
 }
 
-pub fn shape(line: &[u8]) -> Shape {
+fn shape(line: &[u8]) -> Shape {
     Shape {
         len: short(line, 1),
         h: short(line, 2),

@@ -3,7 +3,6 @@ use crate::numbers::first;
 use crate::numbers::long;
 use crate::numbers::numbers;
 use crate::numbers::second;
-use crate::numbers::shape;
 use crate::numbers::short;
 use crate::numbers::third;
 use crate::show::write;
@@ -31,7 +30,7 @@ pub fn watched(line: &[u8]) {
 }
 
 fn start(line: &[u8]) -> Started {
-    Watch::start(first(line, 0), shape(line))
+    Watch::start(first(line, 0), short(line, 1), short(line, 2))
 }
 
 // The fields of `step`: a state, which is k, len, h, the slots taken, the windows, and the slots and bridges left to

@@ -21,7 +21,6 @@ use mir.Val.{SFits}
 use Rattle.rule.specs.Order.{Begins, First}
 use Rattle.rule.specs.Ranges.{ChosenIn, Class, endsFor}
 use Rattle.rule.specs.declared.Range.{Range}
-use Rattle.rule.specs.declared.Shape.{Shape}
 use Rattle.refusals.specs.Answer.{Answer, refuses, gives}
 use Rattle.refusals.specs.Numbers.{number, slot}
 use Rattle.refusals.specs.Table.{row}
@@ -120,7 +119,7 @@ pub record Demand1 : Type 0 where
   -- so do the judge, a watch's start, the reader, the look-up and the writer
   pub judge : (s : Settings) (loads : List ℤ) (marks : List ℕ) (f : Refusal) →
       (judgment s loads marks ≡ refuses f) ↔ (judgeRefusal s loads marks ≡ some f)
-  pub start : (k : ℤ) (shape : Shape) (f : Refusal) → (starting k shape ≡ refuses f) ↔ (startRefusal shape ≡ some f)
+  pub start : (k : ℤ) (len h : ℕ) (f : Refusal) → (starting k len h ≡ refuses f) ↔ (startRefusal len h ≡ some f)
   pub reader : (file : List ℕ) (los his : List ℤ) (f : Refusal) →
       (reading file los his .answer ≡ refuses f) ↔ (File·refusal (row Lent (lentTooShort los his file)) file ≡ some f)
   pub look-up : (slot : ℕ) (file : List ℕ) (f : Refusal) →
@@ -275,8 +274,8 @@ pub record Demand2 : Type 0 where
   -- some loads in its ranges
   pub plans : (r : Request) → WellFormed r → (ms : List ℕ) → PlanOf r ms ↔ YesFor (r .settings) (ranges r) ms
   -- the watch counts the least number of windows, without a maximum, for the loads that lead to its state
-  pub watch : (k : ℤ) (shape : Shape) (X : List ℤ) (w : Watch) → LeadsTo k shape X w →
-      LeastNumber (λ yc. (S : List Sequence) × SpringyFocus X yc (shape .len) (shape .h) k S) (w .windows)
+  pub watch : (k : ℤ) (len h : ℕ) (X : List ℤ) (w : Watch) → LeadsTo k len h X w →
+      LeastNumber (λ yc. (S : List Sequence) × SpringyFocus X yc len h k S) (w .windows)
 
 -- What is established beside the demands. Most of it is cited nowhere else, so only its place here keeps it.
 pub record Established : Type 0 where

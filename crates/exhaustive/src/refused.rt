@@ -268,7 +268,8 @@ fn judged(call: u32) -> u16 {
 }
 
 fn started(call: u32) -> u16 {
-    let started = Watch::start(0, shape(call));
+    let shape = shape(call);
+    let started = Watch::start(0, shape.len, shape.h);
     match started {
         Started::Refused(refusal) => refusal.number(),
         Started::Watching(_) => 0,

@@ -40,7 +40,7 @@ pub fn compare(tally: Tally, n: u16, number: usize) -> Tally
 fn watched(settings: Settings, n: usize, loads: [i32; 8]) -> u32
     requires { ⌜ n ≤ 8 ⌝ }
 {
-    let started = Watch::start(settings.k, settings.shape);
+    let started = Watch::start(settings.k, settings.shape.len, settings.shape.h);
     let Started::Watching(watch) = started else {
         return REFUSED;
     };

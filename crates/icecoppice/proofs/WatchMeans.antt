@@ -21,14 +21,14 @@ use Rattle.icecoppice.specs.declared.watches.StepNumbers.{StepNumbers}
 
 -- no refusal has the number 0
 pub start-means : StartMeans
-start-means k shape = (by (startRefusal shape) refl, λ e. ap code (start-gives k shape e))
+start-means k len h = (by (startRefusal len h) refl, λ e. ap code (start-gives k len h e))
   where
     code : Answer Watch → ℕ
     code a = startNumbers a .code
 
-    by : (o : Option Refusal) → startRefusal shape ≡ o → code (starting k shape) ≡ 0 → startRefusal shape ≡ none
+    by : (o : Option Refusal) → startRefusal len h ≡ o → code (starting k len h) ≡ 0 → startRefusal len h ≡ none
     by none is e = is
-    by (some r) is e = absurd (omega (arith, eleven-le-number r, e, ap code (start-refuses k shape r .1 is)))
+    by (some r) is e = absurd (omega (arith, eleven-le-number r, e, ap code (start-refuses k len h r .1 is)))
 
 abbrev code : Answer Bool → ℕ
 code (gives opened) = 0
@@ -75,8 +75,8 @@ module _ {w : Watch} {load : ℤ} {numbers : StepNumbers} (s : StepsInNumbers w 
         );
         full = ((λ e. steps .full .0 (code→refuses Full refl e)), λ f. code-is ∙ ap code (steps .full .1 f));
         kept = kept;
-        taken = λ threshold shape loads l few.
-            let (leads, is) = steps .taken threshold shape loads l few in
+        taken = λ threshold len h loads l few.
+            let (leads, is) = steps .taken threshold len h loads l few in
             let opened-is = ap (λ n. n .opened) (s .is) ∙ ap (λ x. stepNumbers x (s .stepped .watch) .opened) is in
             (rw state-is leads, code-is ∙ ap code is, rw state-is opened-is);
       }

@@ -1,5 +1,5 @@
 -- The answers of the watch for C, in numbers, and what these promise.
-use Prim.Native.Nat.{_<_}
+use Prim.Native.Nat.{ℕ, _<_}
 use mathlib.Core.Bool.{Bool, false}
 use mathlib.Core.List.{List, [], _∷_, _++_}
 use mathlib.Core.Logic.{_↔_}
@@ -9,7 +9,6 @@ use lib.IntN.{ℤ, pos}
 use lib.ListN.{length}
 use Rattle.refusals.specs.Answer.{Answer, refuses, gives}
 use Rattle.refusals.specs.Numbers.{number}
-use Rattle.rule.specs.declared.Shape.{Shape}
 use Rattle.watch.specs.Promise.{meaning, opened, Steps}
 use Rattle.watch.specs.Start.{starting}
 use Rattle.watch.specs.States.{startRefusal, maxTaken, LeadsTo, Reached}
@@ -40,12 +39,12 @@ pub record StepsInNumbers (w : Watch) (load : ℤ) (numbers : StepNumbers) : Typ
 -- What a caller can tell from the numbers (proofs/WatchMeans.antt): code 0 is an accepted start, and the code of a
 -- step says which of its three situations it was.
 abbrev pub StartMeans : Type 0
-StartMeans = (k : ℤ) (shape : Shape) → (startNumbers (starting k shape) .code ≡ 0) ↔ (startRefusal shape ≡ none)
+StartMeans = (k : ℤ) (len h : ℕ) → (startNumbers (starting k len h) .code ≡ 0) ↔ (startRefusal len h ≡ none)
 
 pub record StepMeans (w : Watch) (load : ℤ) (numbers : StepNumbers) : Type 0 where
   pub unreached : (numbers .code ≡ 32) ↔ (Reached w → ⊥)
   pub full : (numbers .code ≡ 33) ↔ (Reached w × (w .taken ≡ maxTaken))
   pub kept : (numbers .code ≡ 0 → ⊥) → numbers .watch ≡ w
-  pub taken : (k : ℤ) (shape : Shape) (loads : List ℤ) → LeadsTo k shape loads w → length loads < maxTaken →
-      LeadsTo k shape (loads ++ load ∷ []) (numbers .watch)
+  pub taken : (k : ℤ) (len h : ℕ) (loads : List ℤ) → LeadsTo k len h loads w → length loads < maxTaken →
+      LeadsTo k len h (loads ++ load ∷ []) (numbers .watch)
       × (numbers .code ≡ 0) × (numbers .opened ≡ opened w (numbers .watch))

@@ -1,9 +1,7 @@
 // The watch for C: its state is passed by value and comes back.
 ghost use mathlib.Core.Path.{_≡_};
-ghost use Rattle.rule.specs.Rule.{shaped};
 ghost use Rattle.watch.specs.Start.{starting};
 ghost use Rattle.icecoppice.specs.WatchNumbers.{noWatch, startNumbers, StepsInNumbers};
-use rule::Shape;
 use watch::Answer;
 use watch::Started;
 use watch::Watch;
@@ -27,9 +25,9 @@ pub struct StepNumbers {
 // Starts a watch: gives its state, or code 23 or 24 and a state of zeros.
 #[no_mangle]
 pub extern "C" fn icecoppice_watch_start(k: i32, len: u16, h: u16) -> StartNumbers
-    ensures { λ r. ⌜ r ≡ startNumbers (starting k (shaped len h)) ⌝ }
+    ensures { λ r. ⌜ r ≡ startNumbers (starting k len h) ⌝ }
 {
-    let started = Watch::start(k, Shape { len, h });
+    let started = Watch::start(k, len, h);
     match started {
         Started::Watching(watch) => StartNumbers { code: 0, watch },
         Started::Refused(refusal) => StartNumbers {

@@ -13,21 +13,22 @@ use lib.ListN.{length}
 use Rattle.rule.proofs.MarkKinds.{Kind, kind, uncovered, opening, later, bridge, above, above-3-follows-none}
 use Rattle.facts.proofs.Tests.{and-true→both}
 use Rattle.rule.specs.ScanState.{slotsAfter, bridgesAfter, advanced}
-use Rattle.rule.specs.Rule.{agrees, follows, ordered, rest, drawn, countIf, bridges, keeps, every, legalBy}
+use Rattle.rule.specs.Rule.{agrees, follows, ordered, rest, countIf, bridges, keeps, eachWindow, legalBy}
 use Rattle.rule.specs.declared.ScanState.{ScanState}
 use Rattle.rule.specs.declared.Shape.{Shape}
 
-pub record Within (shape : Shape) (window : List ℕ) : Type 0 where
-  pub slots : length window ≤ shape .len
-  pub bridges-fit : bridges window ≤ shape .h
+-- what `keeps` asks, as facts
+pub record Within (shape : Shape) (ms : List ℕ) : Type 0 where
+  pub slots : suc (length (rest ms)) ≤ shape .len
+  pub bridges-fit : bridges (rest ms) ≤ shape .h
 
-pub keeps→within : {shape : Shape} {window : List ℕ} → keeps shape window ≡ true → Within shape window
+pub keeps→within : {shape : Shape} {ms : List ℕ} → keeps shape ms ≡ true → Within shape ms
 unfolding keeps
-keeps→within {shape} {window} e =
-    let (slots, bridges-fit) = and-true→both (leb (length window) (shape .len)) (leb (bridges window) (shape .h)) e in
+keeps→within {shape} {ms} e =
+    let (slots, bridges-fit) = and-true→both (leb (suc (length (rest ms))) (shape .len)) _ e in
     record { slots = leb-true _ _ slots; bridges-fit = leb-true _ _ bridges-fit }
 
-pub within→keeps : {shape : Shape} {window : List ℕ} → Within shape window → keeps shape window ≡ true
+pub within→keeps : {shape : Shape} {ms : List ℕ} → Within shape ms → keeps shape ms ≡ true
 unfolding keeps
 within→keeps w = rw (le-leb _ _ (w .slots), le-leb _ _ (w .bridges-fit))
 
@@ -65,7 +66,7 @@ module _ {A : Type 0} (goes : A → ℕ → Bool) (shape : Shape) where
   pub record KeepsFrom (at : ScanState) (ms : List ℕ) : Type 0 where
     pub slots : at .slots + length (rest ms) ≤ shape .len
     pub bridges-fit : at .bridges + bridges (rest ms) ≤ shape .h
-    pub kept : every (keeps shape) (drawn ms) ≡ true
+    pub kept : eachWindow (keeps shape) ms ≡ true
 
   pub record LegalFrom (at : ScanState) (xs : List A) (ms : List ℕ) : Type 0 where
     pub agree : agrees goes xs ms ≡ true
@@ -73,7 +74,7 @@ module _ {A : Type 0} (goes : A → ℕ → Bool) (shape : Shape) where
     pub shape-kept : KeepsFrom at ms
 
   pub keepsFrom-of-ordered : {at : ScanState} (ms : List ℕ) → WithinSoFar shape at → ordered 0 ms ≡ true →
-      every (keeps shape) (drawn ms) ≡ true → KeepsFrom at ms
+      eachWindow (keeps shape) ms ≡ true → KeepsFrom at ms
   unfolding countIf
   keepsFrom-of-ordered ms f order kept =
       record {
@@ -85,17 +86,17 @@ module _ {A : Type 0} (goes : A → ℕ → Bool) (shape : Shape) where
   module _ (at : ScanState) (ms : List ℕ) where
     keepsFrom-split : {m : ℕ} → Kind m → follows (at .mark) m ≡ true → ordered m ms ≡ true → KeepsFrom at (m ∷ ms) →
         WithinSoFar shape (advanced at m) × KeepsFrom (advanced at m) ms
-    unfolding rest drawn every countIf slotsAfter bridgesAfter
+    unfolding rest eachWindow countIf slotsAfter bridgesAfter
     keepsFrom-split uncovered f order r =
         let fits : WithinSoFar shape (advanced at 0) = omega arith in
         (fits, keepsFrom-of-ordered ms fits order (r .kept))
     keepsFrom-split opening f order r =
-        let w : Within shape (1 ∷ rest ms) = keeps→within (and-true→both _ _ (r .kept) .0) in (
+        let w : Within shape ms = keeps→within (and-true→both _ _ (r .kept) .0) in (
           omega arith,
           record {
             slots = omega arith;
             bridges-fit = omega arith;
-            kept = and-true→both (keeps shape (1 ∷ rest ms)) _ (r .kept) .1;
+            kept = and-true→both (keeps shape ms) _ (r .kept) .1;
           },
         )
     keepsFrom-split later f order r =
@@ -106,10 +107,10 @@ module _ {A : Type 0} (goes : A → ℕ → Bool) (shape : Shape) where
 
     keepsFrom-join : {m : ℕ} → Kind m → follows (at .mark) m ≡ true → WithinSoFar shape at →
         KeepsFrom (advanced at m) ms → KeepsFrom at (m ∷ ms)
-    unfolding rest drawn every countIf slotsAfter bridgesAfter
+    unfolding rest eachWindow countIf slotsAfter bridgesAfter
     keepsFrom-join uncovered f fits r = record { slots = omega arith; bridges-fit = omega arith; kept = r .kept }
     keepsFrom-join opening f fits r =
-        let w : Within shape (1 ∷ rest ms) = omega arith in
+        let w : Within shape ms = omega arith in
         record { slots = omega arith; bridges-fit = omega arith; kept = rw (within→keeps w) (r .kept) }
     keepsFrom-join later f fits r = record { slots = omega arith; bridges-fit = omega arith; kept = r .kept }
     keepsFrom-join bridge f fits r = record { slots = omega arith; bridges-fit = omega arith; kept = r .kept }
@@ -142,7 +143,7 @@ module _ {A : Type 0} (goes : A → ℕ → Bool) (shape : Shape) where
   from-nil→not-3 at o = o .order
 
   pub not-3→from-nil : (at : ScanState) → WithinSoFar shape at → not (eqb (at .mark) 3) ≡ true → LegalFrom at [] []
-  unfolding agrees ordered rest drawn countIf every
+  unfolding agrees ordered rest countIf eachWindow
   not-3→from-nil at f e =
       record {
         agree = refl;
@@ -152,14 +153,14 @@ module _ {A : Type 0} (goes : A → ℕ → Bool) (shape : Shape) where
 
   module _ (xs : List A) (ms : List ℕ) where
     pub legal→parts : legalBy goes shape xs ms ≡ true →
-        (agrees goes xs ms ≡ true) × (ordered 0 ms ≡ true) × (every (keeps shape) (drawn ms) ≡ true)
+        (agrees goes xs ms ≡ true) × (ordered 0 ms ≡ true) × (eachWindow (keeps shape) ms ≡ true)
     unfolding legalBy
     legal→parts e =
         let (front, kept) = and-true→both (agrees goes xs ms && ordered 0 ms) _ e in
         let (agree, order) = and-true→both (agrees goes xs ms) _ front in
         (agree, order, kept)
 
-    pub parts→legal : agrees goes xs ms ≡ true → ordered 0 ms ≡ true → every (keeps shape) (drawn ms) ≡ true →
+    pub parts→legal : agrees goes xs ms ≡ true → ordered 0 ms ≡ true → eachWindow (keeps shape) ms ≡ true →
         legalBy goes shape xs ms ≡ true
     unfolding legalBy
     parts→legal agree order kept = rw (agree, order) kept

@@ -1,32 +1,37 @@
 -- Marks that are legal in a shape are legal in a looser one.
 use Prim.Native.Nat.{ℕ}
 use native.Mathlib.Omega.{arith}
-use mathlib.Core.Bool.{Bool, true}
+use mathlib.Core.Bool.{Bool, true, false, cond}
 use mathlib.Core.List.{List, [], _∷_}
 use mathlib.Core.Path.{_≡_, refl}
+use lib.Dec.{eqb}
 use Rattle.rule.proofs.LegalFrom.{Within, keeps→within, within→keeps, legal→parts, parts→legal}
 use Rattle.facts.proofs.Tests.{and-true→both}
-use Rattle.rule.specs.Rule.{drawn, keeps, every, legalBy, LooserShape}
+use Rattle.rule.specs.Rule.{keeps, eachWindow, legalBy, LooserShape}
 use Rattle.rule.specs.declared.Shape.{Shape}
 
 module _ {l t : Shape} (looser : LooserShape l t) where
-  keeps-mono : (window : List ℕ) → keeps t window ≡ true → keeps l window ≡ true
-  keeps-mono window e =
-      let w : Within t window = keeps→within e in
+  keeps-mono : (ms : List ℕ) → keeps t ms ≡ true → keeps l ms ≡ true
+  keeps-mono ms e =
+      let w : Within t ms = keeps→within e in
       within→keeps (record {
         slots = omega (arith, w .slots, looser .len);
         bridges-fit = omega (arith, w .bridges-fit, looser .h);
       })
 
-  every-keeps-mono : (ws : List (List ℕ)) → every (keeps t) ws ≡ true → every (keeps l) ws ≡ true
-  unfolding every
-  every-keeps-mono [] e = refl
-  every-keeps-mono (w ∷ ws) e =
-      let (one, rest) = and-true→both (keeps t w) (every (keeps t) ws) e in
-      rw (keeps-mono w one) (every-keeps-mono ws rest)
+  eachWindow-mono : (ms : List ℕ) → eachWindow (keeps t) ms ≡ true → eachWindow (keeps l) ms ≡ true
+  unfolding eachWindow
+  eachWindow-mono [] e = refl
+  eachWindow-mono (m ∷ ms) e =
+      let (one, rest) = and-true→both (cond (eqb m 1) (keeps t ms) true) (eachWindow (keeps t) ms) e in
+      rw (by (eqb m 1) one) (eachWindow-mono ms rest)
+    where
+      by : (b : Bool) → cond b (keeps t ms) true ≡ true → cond b (keeps l ms) true ≡ true
+      by true e = keeps-mono ms e
+      by false e = refl
 
   pub legalBy-mono : {A : Type 0} (goes : A → ℕ → Bool) (xs : List A) (ms : List ℕ) →
       legalBy goes t xs ms ≡ true → legalBy goes l xs ms ≡ true
   legalBy-mono goes xs ms e =
       let (agree, order, kept) = legal→parts goes t xs ms e in
-      parts→legal goes l xs ms agree order (every-keeps-mono (drawn ms) kept)
+      parts→legal goes l xs ms agree order (eachWindow-mono ms kept)

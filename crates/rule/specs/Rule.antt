@@ -48,11 +48,6 @@ unfoldable pub rest : List ℕ → List ℕ
 rest [] = []
 rest (m ∷ ms) = cond (between 2 3 m) (m ∷ rest ms) []
 
--- the windows that marks draw, each as its own marks: a mark 1 with the marks 2 and 3 that directly follow it
-unfoldable pub drawn : List ℕ → List (List ℕ)
-drawn [] = []
-drawn (m ∷ ms) = cond (eqb m 1) ((m ∷ rest ms) ∷ drawn ms) (drawn ms)
-
 -- how many of the marks pass a test
 unfoldable pub countIf : (ℕ → Bool) → List ℕ → ℕ
 countIf p [] = 0
@@ -62,18 +57,21 @@ countIf p (m ∷ ms) = cond (p m) (suc (countIf p ms)) (countIf p ms)
 abbrev pub bridges : List ℕ → ℕ
 bridges marks = countIf (λ m. eqb m 3) marks
 
--- a window keeps its shape: it has at most len slots and holds at most h bridges ("The rule, by source")
-unfoldable pub keeps : Shape → List ℕ → Bool
-keeps shape window = leb (length window) (shape .len) && leb (bridges window) (shape .h)
+-- The window whose mark 1 stands right before the marks ms keeps its shape: it has at most len slots and holds at most
+-- h bridges ("The rule, by source").
+unfoldable pub keeps : Shape → (ms : List ℕ) → Bool
+keeps shape ms = leb (suc (length (rest ms))) (shape .len) && leb (bridges (rest ms)) (shape .h)
 
-unfoldable pub every : (List ℕ → Bool) → List (List ℕ) → Bool
-every p [] = true
-every p (w ∷ ws) = p w && every p ws
+-- Each window that marks draw passes a test: a window is a mark 1 with the marks 2 and 3 that directly follow it, and the
+-- test is given all that follows the mark 1.
+unfoldable pub eachWindow : (List ℕ → Bool) → List ℕ → Bool
+eachWindow p [] = true
+eachWindow p (m ∷ ms) = cond (eqb m 1) (p ms) true && eachWindow p ms
 
 -- marks are legal when all this holds and each window so drawn keeps the shape. Slot 0 has mark 0 or 1:
 -- these are the marks that may follow a mark 0
 unfoldable pub legalBy : {A : Type 0} → (A → ℕ → Bool) → Shape → List A → List ℕ → Bool
-legalBy goes shape slots marks = agrees goes slots marks && ordered 0 marks && every (keeps shape) (drawn marks)
+legalBy goes shape slots marks = agrees goes slots marks && ordered 0 marks && eachWindow (keeps shape) marks
 
 -- the marks that go with a load
 abbrev pub carries : (k load : ℤ) (m : ℕ) → Bool

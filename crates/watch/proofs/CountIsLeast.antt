@@ -14,8 +14,7 @@ use Rattle.facts.proofs.Integers.{lt-or-le}
 use Rattle.rule.proofs.Sides.{lt→over, le→under, carried-over, carried-under, carry-over, carry-under}
 use Rattle.rule.proofs.Plan.{State, out, on, PlanBy, done, skip, opens, close, more, bridges}
 use Rattle.rule.proofs.Plan.{legal→plan, plan→legal, nonzero-same}
-use Rattle.rule.specs.Rule.{over, goesWith, carries, countIf, windows}
-use Rattle.rule.specs.declared.Shape.{Shape}
+use Rattle.rule.specs.Rule.{over, goesWith, carries, shaped, countIf, windows}
 use Rattle.watch.proofs.ReachedIsTested.{accepted-numbers}
 use Rattle.watch.specs.Promise.{CountIsLeast, CaseL}
 use Rattle.watch.specs.States.{initial, afterOver, afterUnder, after, stateAfter}
@@ -27,19 +26,19 @@ left zero b = 0
 left (suc r) zero = 0
 left (suc r) (suc b) = r
 
-module _ (k : ℤ) (shape : Shape) where
+module _ (k : ℤ) (len h : ℕ) where
   -- a watch that opened n windows, with r slots left to the active one, and b bridges if r is not 0
   data Stands : (n r b : ℕ) → Watch → Type 0 where
     stands : {t n r b : ℕ} →
         Stands n r b
-        (record { k = k; len = shape .len; h = shape .h; taken = t; windows = n; room = r; spare = cond (eqb r 0) 0 b })
+        (record { k = k; len = len; h = h; taken = t; windows = n; room = r; spare = cond (eqb r 0) 0 b })
 
-  stands-initial : Stands 0 0 0 (initial k shape)
+  stands-initial : Stands 0 0 0 (initial k len h)
   stands-initial = stands
 
   -- where the watch stands after a load
   over-opens : {n b : ℕ} {w : Watch} {x : ℤ} → Stands n 0 b w → k <ℤ x →
-      Stands (n + 1) (shape .len - 1) (shape .h) (after w x)
+      Stands (n + 1) (len - 1) h (after w x)
   unfolding after afterOver
   over-opens stands l = simp (lt→over l) stands
 
@@ -58,11 +57,11 @@ module _ (k : ℤ) (shape : Shape) where
   data Beside (r b : ℕ) : (d : ℕ) → State → Type 0 where
     outside : Beside r b 0 (out 0)
     level : {c : Bool} {r′ b′ : ℕ} → r′ ≤ r → b′ ≤ b → Beside r b 0 (on c r′ b′)
-    ahead : {c : Bool} {r′ b′ : ℕ} → r′ ≤ shape .len - 1 → b′ ≤ shape .h → Beside r b 1 (on c r′ b′)
+    ahead : {c : Bool} {r′ b′ : ℕ} → r′ ≤ len - 1 → b′ ≤ h → Beside r b 1 (on c r′ b′)
 
   -- the watch opens at most d windows more than the rest of the plan has
   count-le-plan : {n d : ℕ} {w : Watch} {st : State} {xs : List ℤ} {ms : List ℕ} →
-      PlanBy (carries k) shape st xs ms → (r b : ℕ) → Stands n r b w → Beside r b d st →
+      PlanBy (carries k) (shaped len h) st xs ms → (r b : ℕ) → Stands n r b w → Beside r b d st →
       stateAfter w xs .windows ≤ n + windows ms + d
   unfolding stateAfter goesWith windows countIf
   count-le-plan done r b stands outside = omega arith
@@ -92,8 +91,8 @@ module _ (k : ℤ) (shape : Shape) where
 
   -- an under slot is a bridge if the window continues after it, and uncovered if the window closes
   under-slot : {x : ℤ} {xs : List ℤ} {ms : List ℕ} (r b : ℕ) → x ≤ℤ k →
-      PlanBy (carries k) shape (on true (left r b) (pred b)) xs ms →
-      (m : ℕ) × PlanBy (carries k) shape (on true r b) (x ∷ xs) (m ∷ ms) × (windows (m ∷ ms) ≡ windows ms)
+      PlanBy (carries k) (shaped len h) (on true (left r b) (pred b)) xs ms →
+      (m : ℕ) × PlanBy (carries k) (shaped len h) (on true r b) (x ∷ xs) (m ∷ ms) × (windows (m ∷ ms) ≡ windows ms)
   unfolding goesWith windows countIf
   under-slot zero b l (close p) = (0, close (skip (carry-under 0 refl l) p), refl)
   under-slot (suc r) zero l (close p) = (0, close (skip (carry-under 0 refl l) p), refl)
@@ -104,7 +103,7 @@ module _ (k : ℤ) (shape : Shape) where
   -- a plan from where the watch stands, with as many windows as the watch opens
   record Met (n r b : ℕ) (w : Watch) (xs : List ℤ) : Type 0 where
     marks : List ℕ
-    plan : PlanBy (carries k) shape (on true r b) xs marks
+    plan : PlanBy (carries k) (shaped len h) (on true r b) xs marks
     same : n + windows marks ≡ stateAfter w xs .windows
 
   -- wherever a watch stands, there is such a plan
@@ -135,24 +134,24 @@ module _ (k : ℤ) (shape : Shape) where
   met (x ∷ xs) n r b w s = one-more (met xs) (lt-or-le k x) n r b w s
 
   -- a window without a slot left has to close
-  closed : {b : ℕ} {xs : List ℤ} {ms : List ℕ} → PlanBy (carries k) shape (on true 0 b) xs ms →
-      PlanBy (carries k) shape (out 0) xs ms
+  closed : {b : ℕ} {xs : List ℤ} {ms : List ℕ} → PlanBy (carries k) (shaped len h) (on true 0 b) xs ms →
+      PlanBy (carries k) (shaped len h) (out 0) xs ms
   closed (close p) = p
 
 pub count-is-least : CountIsLeast
-count-is-least k shape loads e =
-    let f = met k shape loads 0 0 0 _ (stands-initial k shape) in
-    let same = nonzero-same shape (accepted-numbers shape e .0) in
+count-is-least k len h loads e =
+    let f = met k len h loads 0 0 0 _ (stands-initial k len h) in
+    let same = nonzero-same (shaped len h) (accepted-numbers len h e .0) in
     record {
       met = (
         f .marks,
-        rw same at (plan→legal (carries k) shape loads (f .marks) (closed k shape (f .plan))),
+        rw same at (plan→legal (carries k) (shaped len h) loads (f .marks) (closed k len h (f .plan))),
         omega (arith, f .same),
       );
       least = λ ms l.
           let q =
-          count-le-plan k shape (legal→plan (carries k) shape loads ms (rw same l)) 0 0
-          (stands-initial k shape) outside in
+          count-le-plan k len h (legal→plan (carries k) (shaped len h) loads ms (rw same l)) 0 0
+          (stands-initial k len h) outside in
           omega (arith, q);
     }
 

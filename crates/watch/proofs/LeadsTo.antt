@@ -1,5 +1,5 @@
 -- States and the loads that lead to them: what one load does to a state, and one load after others.
-use Prim.Native.Nat.{_+_, _-_, _≤_, _<_}
+use Prim.Native.Nat.{ℕ, _+_, _-_, _≤_, _<_}
 use native.Mathlib.Omega.{arith}
 use mathlib.Core.Bool.{true, false}
 use mathlib.Core.List.{List, [], _∷_, _++_}
@@ -12,7 +12,6 @@ use mir.Syntax.{w32}
 use mir.Val.{SFits}
 use Rattle.facts.proofs.Tests.{cond-cases}
 use Rattle.rule.specs.Rule.{over}
-use Rattle.rule.specs.declared.Shape.{Shape}
 use Rattle.watch.specs.States.{initial, afterSlot, afterOver, afterUnder, after, stateAfter, maxTaken, FitLoads}
 use Rattle.watch.specs.States.{LeadsTo}
 use Rattle.watch.specs.declared.Watch.{Watch}
@@ -37,24 +36,24 @@ stateAfter-taken [] w = omega arith
 stateAfter-taken (x ∷ xs) w = omega (arith, stateAfter-taken xs (after w x), after-taken w x)
 
 -- as many slots are taken as there are loads
-pub taken-length : {k : ℤ} {shape : Shape} {loads : List ℤ} {w : Watch} → LeadsTo k shape loads w →
+pub taken-length : {k : ℤ} {len h : ℕ} {loads : List ℤ} {w : Watch} → LeadsTo k len h loads w →
     w .taken ≡ length loads
-taken-length {k} {shape} {loads} l = rw (← l .state) (omega (arith, stateAfter-taken loads (initial k shape)))
+taken-length {k} {len} {h} {loads} l = rw (← l .state) (omega (arith, stateAfter-taken loads (initial k len h)))
 
 fitLoads-snoc : (loads : List ℤ) {x : ℤ} → SFits w32 x → FitLoads loads → FitLoads (loads ++ x ∷ [])
 fitLoads-snoc [] f all = (f, tt)
 fitLoads-snoc (y ∷ ys) f (one, more) = (one, fitLoads-snoc ys f more)
 
 -- one load more, where the limit is not yet reached
-pub leadsTo-snoc : {k : ℤ} {shape : Shape} {loads : List ℤ} {w : Watch} (x : ℤ) → SFits w32 x →
+pub leadsTo-snoc : {k : ℤ} {len h : ℕ} {loads : List ℤ} {w : Watch} (x : ℤ) → SFits w32 x →
     length loads < maxTaken →
-    LeadsTo k shape loads w → LeadsTo k shape (loads ++ x ∷ []) (after w x)
-leadsTo-snoc {k} {shape} {loads} x f few l =
+    LeadsTo k len h loads w → LeadsTo k len h (loads ++ x ∷ []) (after w x)
+leadsTo-snoc {k} {len} {h} {loads} x f few l =
     record {
       accepted = l .accepted;
       fit = fitLoads-snoc loads f (l .fit);
       few = omega (arith, length-append loads (x ∷ []));
-      state = stateAfter-snoc (initial k shape) loads x ∙ ap (λ v. after v x) (l .state);
+      state = stateAfter-snoc (initial k len h) loads x ∙ ap (λ v. after v x) (l .state);
     }
 
 -- what a slot does to a state, by whether its load is over or under and by what is left to the active window

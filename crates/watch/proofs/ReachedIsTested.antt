@@ -19,27 +19,26 @@ use Rattle.rule.proofs.Sides.{over-mono}
 use Rattle.refusals.proofs.Table.{first-none-row}
 use Rattle.settings.proofs.Accepted.{wrongLength-false, bridges-le}
 use Rattle.settings.specs.Refusals.{limit, shapeRefusal}
-use Rattle.rule.specs.Rule.{over}
-use Rattle.rule.specs.declared.Shape.{Shape}
+use Rattle.rule.specs.Rule.{over, shaped}
 use Rattle.watch.proofs.LeadsTo.{after-taken, afterOver-opens, afterOver-continues, afterUnder-ends}
 use Rattle.watch.proofs.LeadsTo.{afterUnder-bridges, after-of-over, after-of-under}
-use Rattle.watch.specs.States.{shapeOf, startRefusal, initial, afterSlot, after, stateAfter, maxTaken, FitLoads}
+use Rattle.watch.specs.States.{startRefusal, initial, afterSlot, after, stateAfter, maxTaken, FitLoads}
 use Rattle.watch.specs.States.{Reached}
 use Rattle.watch.specs.Tested.{highest, spacing, Idle, Active, Tested}
 use Rattle.watch.specs.declared.Watch.{Watch}
 
 -- what an accepted start says of the numbers of its shape
-pub accepted-numbers : (shape : Shape) → startRefusal shape ≡ none →
-    (1 ≤ shape .len) × (shape .len ≤ limit) × (2 ≤ shape .len → shape .h + 2 ≤ shape .len)
+pub accepted-numbers : (len h : ℕ) → startRefusal len h ≡ none →
+    (1 ≤ len) × (len ≤ limit) × (2 ≤ len → h + 2 ≤ len)
 unfolding shapeRefusal
-accepted-numbers shape e =
+accepted-numbers len h e =
     let (length, e) = first-none-row _ _ _ e in
     let (bridges, e) = first-none-row _ _ _ e in
-    let (some, few) = wrongLength-false shape limit .0 length in
-    (some, few, λ two. omega (arith, bridges-le shape bridges))
+    let (some, few) = wrongLength-false (shaped len h) limit .0 length in
+    (some, few, λ two. omega (arith, bridges-le (shaped len h) bridges))
 
-initial-tested : (k : ℤ) (shape : Shape) → startRefusal shape ≡ none → Tested (initial k shape)
-initial-tested k shape e = record { accepted = e; few = omega arith; opens = inl refl; phase = inl (omega arith) }
+initial-tested : (k : ℤ) (len h : ℕ) → startRefusal len h ≡ none → Tested (initial k len h)
+initial-tested k len h e = record { accepted = e; few = omega arith; opens = inl refl; phase = inl (omega arith) }
 
 load-le-highest : (x : ℤ) → SFits w32 x → x ≤ℤ highest
 load-le-highest (pos n) f = let bounded : n < 2147483648 = f .sfits in leZ-yes (le→leb n 2147483647 (omega arith))
@@ -51,7 +50,7 @@ threshold s some = ⊎-elim (λ e. absurd (omega (arith, e))) (λ o. o) (s .open
 
 module _ {w : Watch} (s : Tested w) (few : w .taken < maxTaken) where
   abbrev least : ℕ
-  least = spacing (shapeOf w)
+  least = spacing (w .len) (w .h)
 
   -- no window is active after the slot
   ended : (n : ℕ) → (n ≡ 0) ⊎ (over (w .k) highest ≡ true) → n * least ≤ w .taken + 1 → Tested (afterSlot w n 0 0)
@@ -72,7 +71,7 @@ module _ {w : Watch} (s : Tested w) (few : w .taken < maxTaken) where
     -- an over load opens a window where none is active
     opening : over (w .k) x ≡ true → over (w .k) highest ≡ true → Idle w → Tested (after w x)
     opening e o i =
-        let (some, few, more) = accepted-numbers (shapeOf w) (s .accepted) in
+        let (some, few, more) = accepted-numbers (w .len) (w .h) (s .accepted) in
         let before : w .windows + 1 - 1 ≡ w .windows = omega arith in
         rw (after-of-over w x e, afterOver-opens w (i .slots))
         (used (w .windows + 1) (w .len - 1) (w .h) o (rw before (omega (arith, i .each))))
@@ -119,6 +118,6 @@ stateAfter-tested (x ∷ xs) {w} (one, more) few s =
     stateAfter-tested xs more (omega (arith, after-taken w x)) (after-tested s (omega arith) x one)
 
 pub reached→tested : (w : Watch) → Reached w → Tested w
-reached→tested w (k, shape, loads, l) =
+reached→tested w (k, len, h, loads, l) =
     subst Tested (l .state)
-    (stateAfter-tested loads (l .fit) (omega (arith, l .few)) (initial-tested k shape (l .accepted)))
+    (stateAfter-tested loads (l .fit) (omega (arith, l .few)) (initial-tested k len h (l .accepted)))

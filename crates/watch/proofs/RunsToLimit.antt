@@ -15,7 +15,6 @@ use Rattle.refusals.proofs.Answer.{refuses-injective}
 use Rattle.refusals.specs.Answer.{refuses, gives}
 use Rattle.refusals.specs.declared.Refusal.{Refusal}
 use Rattle.refusals.specs.declared.Refusal.the-variants.{Unreached, Full}
-use Rattle.rule.specs.declared.Shape.{Shape}
 use Rattle.watch.proofs.LeadsTo.{taken-length}
 use Rattle.watch.proofs.StepAnswers.{codes-differ}
 use Rattle.watch.specs.Promise.{meaning, Steps, Runs, done, stops, continues, RunsFromReached}
@@ -24,10 +23,10 @@ use Rattle.watch.specs.declared.Watch.{Watch}
 use Rattle.watch.specs.declared.step.Stepped.{Stepped}
 
 -- what a step from such a state answers, at the limit and below it
-module _ {k : ℤ} {shape : Shape} {xs : List ℤ} {w : Watch} (l : LeadsTo k shape xs w) {x : ℤ} {r : Stepped}
+module _ {k : ℤ} {len h : ℕ} {xs : List ℤ} {w : Watch} (l : LeadsTo k len h xs w) {x : ℤ} {r : Stepped}
     (s : Steps w x r) where
   at-limit : length xs ≡ maxTaken → meaning (r .answer) ≡ refuses Full
-  at-limit all = s .full .1 ((k, shape, xs, l), taken-length l ∙ all)
+  at-limit all = s .full .1 ((k, len, h, xs, l), taken-length l ∙ all)
 
   took-below : {b : Bool} → meaning (r .answer) ≡ gives b → length xs < maxTaken
   took-below e =
@@ -36,22 +35,22 @@ module _ {k : ℤ} {shape : Shape} {xs : List ℤ} {w : Watch} (l : LeadsTo k sh
 
   refused-full : {q : Refusal} → meaning (r .answer) ≡ refuses q → (length xs ≡ maxTaken) × (q ≡ Full)
   refused-full e =
-      let full : (length xs < maxTaken → ⊥) = λ few. codes-differ (λ c. omega arith) e (s .taken k shape xs l few .1) in
+      let full : (length xs < maxTaken → ⊥) = λ few. codes-differ (λ c. omega arith) e (s .taken k len h xs l few .1) in
       let all : length xs ≡ maxTaken = omega (arith, l .few, full) in
       (all, refuses-injective (sym e ∙ at-limit all))
 
 pub runs-to-limit : RunsFromReached
-runs-to-limit k shape loads _ _ _ _ _ l done =
+runs-to-limit k len h loads _ _ _ _ _ l done =
     record { taken = omega arith; state = rw (append-nil loads) l; refused = refl }
-runs-to-limit k shape loads _ _ _ _ _ l (stops {xs = xs} r s e) =
+runs-to-limit k len h loads _ _ _ _ _ l (stops {xs = xs} r s e) =
     record {
       taken = omega (arith, refused-full l s e .0);
       state = rw (append-nil loads, s .kept _ e .1) l;
       refused = rw (refused-full l s e .1, lt-ltb 0 (suc (length xs)) (omega arith));
     }
-runs-to-limit k shape loads _ _ _ _ _ l (continues {x = x} {xs} {n = n} r s e run) =
+runs-to-limit k len h loads _ _ _ _ _ l (continues {x = x} {xs} {n = n} r s e run) =
     let few = took-below l s e in
-    let q = runs-to-limit k shape (loads ++ x ∷ []) xs _ _ n _ (s .taken k shape loads l few .0) run in
+    let q = runs-to-limit k len h (loads ++ x ∷ []) xs _ _ n _ (s .taken k len h loads l few .0) run in
     record {
       taken = omega (arith, q .taken, length-append loads (x ∷ []));
       state = rw (append-snoc loads x (take n xs)) at (q .state);

@@ -10,29 +10,28 @@ use mir.Syntax.{w32}
 use mir.Val.{SFits}
 use Rattle.settings.specs.Refusals.{limit}
 use Rattle.rule.specs.Rule.{over}
-use Rattle.rule.specs.declared.Shape.{Shape}
 use Rattle.watch.proofs.TestedIsReached.{tested→reached}
 use Rattle.watch.proofs.ReachedIsTested.{accepted-numbers, reached→tested}
-use Rattle.watch.specs.States.{shapeOf, startRefusal, maxTaken, Reached}
+use Rattle.watch.specs.States.{startRefusal, maxTaken, Reached}
 use Rattle.watch.specs.Tested.{highest, spacing, Bounded, Idle, Active, Tested, Ready}
 use Rattle.watch.specs.declared.Watch.{Watch}
 
 -- where one slot does not fill a window, all its bridges and then one under slot more are the shortest way to end it
-pub spacing-by-bridges : (shape : Shape) → startRefusal shape ≡ none → (shape .len ≡ 1 → ⊥) →
-    shape .h + 2 ≡ spacing shape
-spacing-by-bridges shape e many =
-    let (some, few, fewer) = accepted-numbers shape e in
+pub spacing-by-bridges : (len h : ℕ) → startRefusal len h ≡ none → (len ≡ 1 → ⊥) →
+    h + 2 ≡ spacing len h
+spacing-by-bridges len h e many =
+    let (some, few, fewer) = accepted-numbers len h e in
     omega (arith, fewer (omega (arith, many)))
 
 -- the products that a test computes are small
-pub sums-bounded : {w : Watch} → Bounded w → (n : ℕ) → n ≤ w .windows → n * spacing (shapeOf w) ≤ maxTaken * limit
+pub sums-bounded : {w : Watch} → Bounded w → (n : ℕ) → n ≤ w .windows → n * spacing (w .len) (w .h) ≤ maxTaken * limit
 sums-bounded t n few =
-    mul-le-mul {n₂ = maxTaken} {m₂ = limit} (omega arith) (omega (arith, accepted-numbers _ (t .accepted) .1))
+    mul-le-mul {n₂ = maxTaken} {m₂ = limit} (omega arith) (omega (arith, accepted-numbers _ _ (t .accepted) .1))
 
 -- no more windows were opened than slots taken
 pub windows-le-taken : {w : Watch} → Tested w → w .windows ≤ w .taken
 windows-le-taken {w} s =
-    let some : 1 ≤ spacing (shapeOf w) = omega (arith, accepted-numbers _ (s .accepted) .0) in
+    let some : 1 ≤ spacing (w .len) (w .h) = omega (arith, accepted-numbers _ _ (s .accepted) .0) in
     ⊎-elim
     (λ i. omega (arith, le-mul-of-pos-right (w .windows) some, i .each))
     (λ a. omega (arith, le-mul-of-pos-right (w .windows - 1) some, a))
@@ -41,7 +40,7 @@ windows-le-taken {w} s =
 pub tested→ready : {w : Watch} → Tested w → w .taken < maxTaken → Ready w
 tested→ready {w} s more =
     record {
-      sized = accepted-numbers _ (s .accepted) .0;
+      sized = accepted-numbers _ _ (s .accepted) .0;
       counted = windows-le-taken s;
       more = more;
       active = active (s .phase);

@@ -33,7 +33,7 @@ module _ (w : Watch) (load : ℤ) (r : Stepped) where
         unreached = (λ _. un, λ _. ap meaning e);
         full = (λ f. absurd (codes-differ (λ c. omega arith) (ap meaning e) f), λ f. absurd (un (f .0)));
         kept = λ q f. (inl (refuses-injective (sym f ∙ ap meaning e)), same);
-        taken = λ k shape loads l few. absurd (un (k, shape, loads, l));
+        taken = λ k len h loads l few. absurd (un (k, len, h, loads, l));
       }
 
   pub refuses-33 : Reached w → w .taken ≡ maxTaken → r .watch ≡ w → r .answer ≡ Refused Full → Steps w load r
@@ -42,7 +42,7 @@ module _ (w : Watch) (load : ℤ) (r : Stepped) where
         unreached = (λ f. absurd (codes-differ (λ c. omega arith) (ap meaning e) f), λ un. absurd (un re));
         full = (λ _. (re, is), λ _. ap meaning e);
         kept = λ q f. (inr (refuses-injective (sym f ∙ ap meaning e)), same);
-        taken = λ k shape loads l few. absurd (omega (arith, taken-length l));
+        taken = λ k len h loads l few. absurd (omega (arith, taken-length l));
       }
 
   pub takes-load : SFits w32 load → Reached w → w .taken < maxTaken → r .watch ≡ after w load →
@@ -54,5 +54,5 @@ module _ (w : Watch) (load : ℤ) (r : Stepped) where
         full = (λ f. absurd (codes-differ (λ c. omega arith) (ap meaning e) f), λ f. absurd (omega (arith, f .1)));
         kept = λ q f. absurd (codes-differ (λ c. omega arith) (ap meaning e) f);
         taken =
-            λ k shape loads l few. (subst (LeadsTo k shape _) (sym is) (leadsTo-snoc load fits few l), ap meaning e);
+            λ k len h loads l few. (subst (LeadsTo k len h _) (sym is) (leadsTo-snoc load fits few l), ap meaning e);
       }

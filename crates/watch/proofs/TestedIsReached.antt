@@ -19,7 +19,7 @@ use Rattle.watch.proofs.LeadsTo.{taken-length, leadsTo-snoc, afterOver-
 use Rattle.watch.proofs.LeadsTo.{afterUnder-ends, afterUnder-bridges, after-of-over, after-of-under}
 use Rattle.watch.proofs.ReachedIsTested.{accepted-numbers, threshold}
 use Rattle.facts.proofs.Naturals.{mul-split-last}
-use Rattle.watch.specs.States.{shapeOf, initial, after, stateAfter, LeadsTo, Reached}
+use Rattle.watch.specs.States.{initial, after, stateAfter, LeadsTo, Reached}
 use Rattle.watch.specs.Tested.{highest, spacing, Idle, Active, Tested}
 use Rattle.watch.specs.declared.Watch.{Watch}
 
@@ -35,11 +35,11 @@ same-numbers w (t, n, r, b) = rw (t, n, r, b)
 starts : (w : Watch) → w .taken ≡ 0 → Tested w → Reached w
 unfolding stateAfter
 starts w e s =
-    let sized : 1 ≤ spacing (shapeOf w) = omega (arith, accepted-numbers (shapeOf w) (s .accepted) .0) in
+    let sized : 1 ≤ spacing (w .len) (w .h) = omega (arith, accepted-numbers (w .len) (w .h) (s .accepted) .0) in
     let some = le-mul-of-pos-right (w .windows) sized in
-    let state : initial (w .k) (shapeOf w) ≡ w =
+    let state : initial (w .k) (w .len) (w .h) ≡ w =
     ⊎-elim (λ (i : Idle w). same-numbers w (omega arith)) (λ (a : Active w). absurd (omega arith)) (s .phase) in
-    (w .k, shapeOf w, [], record { accepted = s .accepted; fit = tt; few = omega arith; state = state })
+    (w .k, w .len, w .h, [], record { accepted = s .accepted; fit = tt; few = omega arith; state = state })
 
 highest-fits : SFits w32 highest
 highest-fits = record { sfits = omega arith }
@@ -50,7 +50,7 @@ Earlier t w = (n r b : ℕ) → Tested (withSettingsOf w t n r b) → Reached (w
 
 module _ {t : ℕ} {w : Watch} (e : w .taken ≡ suc t) (f : SFits w32 (w .k)) (s : Tested w) (earlier : Earlier t w) where
   abbrev least : ℕ
-  least = spacing (shapeOf w)
+  least = spacing (w .len) (w .h)
 
   abbrev before : (windows room spare : ℕ) → Watch
   before n r b = withSettingsOf w t n r b
@@ -66,9 +66,9 @@ module _ {t : ℕ} {w : Watch} (e : w .taken ≡ suc t) (f : SFits w32 (w .k)) (
         opens = ⊎-elim (λ none. inl (omega (arith, none))) inr (s .opens);
         phase = phase;
       } in
-      let (k, shape, loads, l) = earlier n r b tested in
+      let (k, len, h, loads, l) = earlier n r b tested in
       let on = leadsTo-snoc x fits (omega (arith, taken-length l, s .few)) l in
-      (k, shape, loads ++ x ∷ [], subst (LeadsTo k shape (loads ++ x ∷ [])) is on)
+      (k, len, h, loads ++ x ∷ [], subst (LeadsTo k len h (loads ++ x ∷ [])) is on)
 
   -- the state after a load is this one: only an active window has bridges left
   lands : (n r b : ℕ) → (n ≡ w .windows) × (r ≡ w .room) × (1 ≤ w .room → b ≡ w .spare) →
@@ -109,7 +109,7 @@ module _ {t : ℕ} {w : Watch} (e : w .taken ≡ suc t) (f : SFits w32 (w .k)) (
         latest all =
             let some = lt-of-mul-lt-mul-right least {m = 0} {n = w .windows} (omega arith) in
             let all = sym (mul-split-last (w .windows) least some) ∙ all ∙ e in
-            let (sized, few, wide) = accepted-numbers (shapeOf w) (s .accepted) in
+            let (sized, few, wide) = accepted-numbers (w .len) (w .h) (s .accepted) in
             ⊎-elim (λ one. opened some (omega arith) (omega arith) (omega arith)) (λ two. ended some all (wide two))
             (eq-or-lt-of-le sized)
 

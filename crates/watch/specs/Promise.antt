@@ -13,7 +13,6 @@ use Rattle.refusals.specs.Answer.{Answer, refuses, gives, answer}
 use Rattle.refusals.specs.declared.Refusal.{Refusal}
 use Rattle.refusals.specs.declared.Refusal.the-variants.{Unreached, Full}
 use Rattle.rule.specs.Rule.{legal, shaped, windows, LeastOver}
-use Rattle.rule.specs.declared.Shape.{Shape}
 use Rattle.watch.specs.States.{startRefusal, initial, stateAfter, maxTaken, LeadsTo, Reached}
 use Rattle.watch.specs.declared.Watch.{Watch}
 use Rattle.watch.specs.declared.step.Answer.{Answer as step·Answer}
@@ -39,8 +38,8 @@ pub record Steps (w : Watch) (load : ℤ) (r : Stepped) : Type 0 where
   pub kept : (q : Refusal) → meaning (r .answer) ≡ refuses q → ((q ≡ Unreached) ⊎ (q ≡ Full)) × (r .watch ≡ w)
   -- otherwise the loads that lead to the given state, followed by this one, lead to the state that
   -- comes back, and the answer says whether this one opened a window
-  pub taken : (k : ℤ) (shape : Shape) (loads : List ℤ) → LeadsTo k shape loads w → length loads < maxTaken →
-      LeadsTo k shape (loads ++ load ∷ []) (r .watch) × (meaning (r .answer) ≡ gives (opened w (r .watch)))
+  pub taken : (k : ℤ) (len h : ℕ) (loads : List ℤ) → LeadsTo k len h loads w → length loads < maxTaken →
+      LeadsTo k len h (loads ++ load ∷ []) (r .watch) × (meaning (r .answer) ≡ gives (opened w (r .watch)))
 
 -- A run steps load by load, up to the first that is refused. It gives the state then, how many
 -- loads were taken, and the refusal, if any.
@@ -54,26 +53,26 @@ pub data Runs : (before : Watch) (loads : List ℤ) (after : Watch) (taken : ℕ
 
 -- From a state that loads lead to, a run takes as many loads as the limit allows. The earlier loads, followed by
 -- these, lead to the state that comes back, and the run is refused, with 33, exactly when loads are left over.
-pub record RunsToLimit (k : ℤ) (shape : Shape) (loads xs : List ℤ) (v : Watch) (n : ℕ)
+pub record RunsToLimit (k : ℤ) (len h : ℕ) (loads xs : List ℤ) (v : Watch) (n : ℕ)
     (o : Option Refusal) : Type 0 where
   pub taken : n ≡ min (length xs) (maxTaken - length loads)
-  pub state : LeadsTo k shape (loads ++ take n xs) v
+  pub state : LeadsTo k len h (loads ++ take n xs) v
   pub refused : o ≡ cond (ltb n (length xs)) (some Full) none
 
 abbrev pub RunsFromReached : Type 0
 RunsFromReached =
-    (k : ℤ) (shape : Shape) (loads xs : List ℤ) (w v : Watch) (n : ℕ) (o : Option Refusal) → LeadsTo k shape loads w →
-    Runs w xs v n o → RunsToLimit k shape loads xs v n o
+    (k : ℤ) (len h : ℕ) (loads xs : List ℤ) (w v : Watch) (n : ℕ) (o : Option Refusal) → LeadsTo k len h loads w →
+    Runs w xs v n o → RunsToLimit k len h loads xs v n o
 
 -- After an accepted start and any loads the window count is the least number of windows that covers
 -- them, over all legal marks.
 abbrev pub CountIsLeast : Type 0
-CountIsLeast = (k : ℤ) (shape : Shape) (loads : List ℤ) → startRefusal shape ≡ none →
-    LeastOver (λ ms. legal k shape loads ms ≡ true) windows (stateAfter (initial k shape) loads .windows)
+CountIsLeast = (k : ℤ) (len h : ℕ) (loads : List ℤ) → startRefusal len h ≡ none →
+    LeastOver (λ ms. legal k (shaped len h) loads ms ≡ true) windows (stateAfter (initial k len h) loads .windows)
 
 -- Case L: len 4, loads 1, 0, 0, 1
 abbrev pub caseL : (h : ℕ) → Watch
-caseL h = stateAfter (initial (pos 0) (shaped 4 h)) (pos 1 ∷ pos 0 ∷ pos 0 ∷ pos 1 ∷ [])
+caseL h = stateAfter (initial (pos 0) 4 h) (pos 1 ∷ pos 0 ∷ pos 0 ∷ pos 1 ∷ [])
 
 pub record CaseL : Type 0 where
   pub one-bridge : caseL 1 .windows ≡ 2

@@ -1,7 +1,7 @@
 -- What a start gives (document 01, "Watch" and "Where each refusal is checked").
+use Prim.Native.Nat.{ℕ}
 use lib.IntN.{ℤ}
 use Rattle.refusals.specs.Answer.{Answer, refuses, gives, answer}
-use Rattle.rule.specs.declared.Shape.{Shape}
 use Rattle.watch.specs.States.{startRefusal, initial}
 use Rattle.watch.specs.declared.start.Started.{Started}
 use Rattle.watch.specs.declared.start.Started.the-variants.{Watching, Refused}
@@ -12,5 +12,5 @@ abbrev pub meaning : Started → Answer Watch
 meaning (Watching w) = gives w
 meaning (Refused r) = refuses r
 
-unfoldable pub starting : (k : ℤ) → Shape → Answer Watch
-starting k shape = answer (startRefusal shape) (initial k shape)
+unfoldable pub starting : (k : ℤ) (len h : ℕ) → Answer Watch
+starting k len h = answer (startRefusal len h) (initial k len h)

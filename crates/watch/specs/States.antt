@@ -12,19 +12,15 @@ use mir.Val.{SFits}
 use Rattle.refusals.specs.declared.Refusal.{Refusal}
 use Rattle.settings.specs.Refusals.{limit, shapeRefusal}
 use Rattle.rule.specs.Rule.{over, shaped}
-use Rattle.rule.specs.declared.Shape.{Shape}
 use Rattle.watch.specs.declared.Watch.{Watch}
 
 -- "Where each refusal is checked", the settings rows for the watch: 23 with the limit in place of n, and 24
-abbrev pub startRefusal : Shape → Option Refusal
-startRefusal shape = shapeRefusal limit shape
-
-abbrev pub shapeOf : Watch → Shape
-shapeOf w = shaped (w .len) (w .h)
+abbrev pub startRefusal : (len h : ℕ) → Option Refusal
+startRefusal len h = shapeRefusal limit (shaped len h)
 
 -- an accepted start: no slot taken, no window opened, none active
-abbrev pub initial : (k : ℤ) → Shape → Watch
-initial k shape = record { k = k; len = shape .len; h = shape .h; taken = 0; windows = 0; room = 0; spare = 0 }
+abbrev pub initial : (k : ℤ) (len h : ℕ) → Watch
+initial k len h = record { k = k; len = len; h = h; taken = 0; windows = 0; room = 0; spare = 0 }
 
 -- the state with one slot more taken, this many windows opened so far, and this much left to the
 -- active window; a window is active while it has slots left
@@ -72,12 +68,12 @@ FitLoads [] = Unit
 FitLoads (x ∷ xs) = SFits w32 x × FitLoads xs
 
 -- an accepted start and these loads, at most as many as a watch takes, lead to the state w
-pub record LeadsTo (k : ℤ) (shape : Shape) (loads : List ℤ) (w : Watch) : Type 0 where
-  pub accepted : startRefusal shape ≡ none
+pub record LeadsTo (k : ℤ) (len h : ℕ) (loads : List ℤ) (w : Watch) : Type 0 where
+  pub accepted : startRefusal len h ≡ none
   pub fit : FitLoads loads
   pub few : length loads ≤ maxTaken
-  pub state : stateAfter (initial k shape) loads ≡ w
+  pub state : stateAfter (initial k len h) loads ≡ w
 
 -- some accepted start and some loads lead to the state w
 abbrev pub Reached : Watch → Type 0
-Reached w = (k : ℤ) × (shape : Shape) × (loads : List ℤ) × LeadsTo k shape loads w
+Reached w = (k : ℤ) × (len : ℕ) × (h : ℕ) × (loads : List ℤ) × LeadsTo k len h loads w

@@ -5,8 +5,8 @@ ghost use mathlib.Core.Logic.{_⊎_, _↔_};
 ghost use mathlib.Core.Option.{none};
 ghost use Prim.Native.Nat.{_+_, _*_, _≤_, _<_};
 ghost use Rattle.settings.specs.Refusals.{limit};
-ghost use Rattle.rule.specs.Rule.{over as Rule·over};
-ghost use Rattle.watch.specs.States.{shapeOf, startRefusal, maxTaken, Reached};
+ghost use Rattle.rule.specs.Rule.{over as Rule·over, shaped};
+ghost use Rattle.watch.specs.States.{startRefusal, maxTaken, Reached};
 ghost use Rattle.watch.specs.Tested.{highest, spacing as Tested·spacing, Bounded, Idle, Active};
 use crate::Watch;
 use refusals::Checked;
@@ -44,8 +44,9 @@ impl Watch {
         self.active()
     }
 
-    fn shape(self) -> Shape
-        ensures { λ r. ⌜ r ≡ shapeOf self ⌝ }
+    // The shape of its windows.
+    pub(crate) fn shape(self) -> Shape
+        ensures { λ r. ⌜ r ≡ shaped (self .len) (self .h) ⌝ }
     {
         Shape {
             len: self.len,
@@ -99,8 +100,8 @@ impl Watch {
 
     // The least number of slots from one window's opening to the next one's.
     fn spacing(self) -> u32
-        requires { ⌜ startRefusal (shapeOf self) ≡ none ⌝ }
-        ensures { λ r. ⌜ r ≡ Tested·spacing (shapeOf self) ⌝ }
+        requires { ⌜ startRefusal (self .len) (self .h) ≡ none ⌝ }
+        ensures { λ r. ⌜ r ≡ Tested·spacing (self .len) (self .h) ⌝ }
     {
         if self.len == 1 { 1 } else { self.h as u32 + 2 }
     }

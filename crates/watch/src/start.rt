@@ -4,7 +4,6 @@ ghost use Rattle.watch.specs.Start.{meaning, starting};
 use crate::Watch;
 use refusals::Checked;
 use refusals::Refusal;
-use rule::Shape;
 use settings::LIMIT;
 use settings::check_shape;
 
@@ -15,22 +14,23 @@ pub enum Started {
 }
 
 impl Watch {
-    // In the state that comes back no slot is taken yet. The shape is refused with 23 or 24, as for LIMIT slots.
-    pub fn start(k: i32, shape: Shape) -> Started
-        ensures { λ r. ⌜ meaning r ≡ starting k shape ⌝ }
+    // In the state that comes back no slot is taken yet. The settings are refused with 23 or 24, as for LIMIT slots.
+    pub fn start(k: i32, len: u16, h: u16) -> Started
+        ensures { λ r. ⌜ meaning r ≡ starting k len h ⌝ }
     {
-        let checked = check_shape(shape, LIMIT);
-        if let Checked::Refused(refusal) = checked {
-            return Started::Refused(refusal);
-        }
-        Started::Watching(Watch {
+        let watch = Watch {
             k,
-            len: shape.len,
-            h: shape.h,
+            len,
+            h,
             taken: 0,
             windows: 0,
             room: 0,
             spare: 0,
-        })
+        };
+        let checked = check_shape(watch.shape(), LIMIT);
+        if let Checked::Refused(refusal) = checked {
+            return Started::Refused(refusal);
+        }
+        Started::Watching(watch)
     }
 }

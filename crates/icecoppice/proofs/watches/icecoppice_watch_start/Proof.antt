@@ -2,7 +2,6 @@
 use mathlib.Core.Path.{_≡_, ap, sym, _∙_}
 use borrow.Author.Needs.{needs}
 use mir.Facts.{toZ-ofZ}
-use Rattle.rule.specs.Rule.{shaped}
 use Rattle.watch.specs.Start.{meaning, starting}
 use Rattle.icecoppice.specs.WatchNumbers.{startNumbers}
 use Rattle.icecoppice.proofs.watches.icecoppice_watch_start.Statement.{statement}
@@ -12,7 +11,7 @@ start-requires : tie.Need-start-requires
 start-requires c κs = search needs
 
 start-is : (c : tie.After-start) → let args = c .before .args in
-    meaning (c .start .result) ≡ starting (args .k) (shaped (args .len) (args .h))
+    meaning (c .start .result) ≡ starting (args .k) (args .len) (args .h)
 start-is c = simp (toZ-ofZ, c .before .fits .k) at (c .start .ensures)
 
 enum-known-started : tie.Need-enum-known-started

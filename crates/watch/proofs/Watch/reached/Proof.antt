@@ -10,10 +10,11 @@ use mir.Syntax.{w32}
 use mir.Val.{SFits}
 use Rattle.refusals.specs.Answer.{meaning}
 use Rattle.rule.specs.Rule.{over}
+use Rattle.settings.specs.Refusals.{limit, shapeRefusal}
 use Rattle.watch.proofs.ReachedIsTested.{reached→tested}
 use Rattle.watch.proofs.StateTests.{windows-le-taken, idle-iff-reached, active-iff-reached}
 use Rattle.facts.proofs.Tests.{false-iff}
-use Rattle.watch.specs.States.{shapeOf, startRefusal, Reached}
+use Rattle.watch.specs.States.{startRefusal, Reached}
 use Rattle.watch.specs.Tested.{highest, Bounded}
 use Rattle.watch.proofs.Watch.reached.Statement.{statement}
 use Rattle.watch.proofs.Watch.reached.Tie as tie
@@ -26,8 +27,8 @@ abbrev passed : tie.Else2 → tie.After-enum-told2
 passed c = c .before .before .before .before
 
 checks : (c : tie.After-check-shape) → meaning (c .check-shape .result)
-    ≡ startRefusal (shapeOf (c .before .before .args .self))
-checks c = c .check-shape .ensures ∙ ap startRefusal (c .before .shape .ensures)
+    ≡ startRefusal (c .before .before .args .self .len) (c .before .before .args .self .h)
+checks c = c .check-shape .ensures ∙ ap (shapeRefusal limit) (c .before .shape .ensures)
 
 returns : tie.Need-returns
 returns c = false-iff refuses
