@@ -1,8 +1,8 @@
 /*
  * Times the library's filter beside the same algorithm in plain C, on the same requests in the same run.
  *
- * `bench` prints the table, and that of the watch below it. `bench data KIND N` prints one of the filter's requests as
- * MiniZinc data, for minizinc.sh.
+ * `bench` prints the tables, and that of the watch below them. `bench data KIND N` prints one of the filter's requests
+ * as MiniZinc data, for minizinc.sh.
  */
 #define _XOPEN_SOURCE 700
 
@@ -17,17 +17,17 @@
 #include <string.h>
 #include <ucontext.h>
 
-enum { SAMPLES = 101, SAMPLE_NANOSECONDS = 200000 };
+enum { SAMPLES = 101, SAMPLE_NANOSECONDS = 200000, TIMED_SETTLE = 3 };
 
 /* The slots' load ranges are over 1..9, under -9..0 and open -9..9, with k = 0. Both minimums are 0. */
 struct request {
     size_t n;
-    uint16_t len, h, windows_most, covered_most;
+    uint16_t len, h, settle, windows_most, covered_most;
     int32_t lowest[ICECOPPICE_SLOTS], highest[ICECOPPICE_SLOTS];
     uint8_t marks[ICECOPPICE_SLOTS];
 };
 
-typedef struct icecoppice_answer filter(int32_t, uint16_t, uint16_t, uint16_t, uint16_t, uint16_t, uint16_t,
+typedef struct icecoppice_answer filter(int32_t, uint16_t, uint16_t, uint16_t, uint16_t, uint16_t, uint16_t, uint16_t,
                                         int32_t *, size_t, int32_t *, size_t, uint8_t *, size_t);
 
 enum kind { FEW, MANY, OPEN, ALTERNATING, KINDS };
@@ -45,9 +45,9 @@ static void set_slot(struct request *r, size_t j, bool may_be_under, bool may_be
  * open:        all slots open; len n/2, h 2, at most n/4 windows and n/2 covered slots
  * alternating: even slots over, odd slots under, but slot 3 of every 8 open; len n/2, h n/4 - 1, at most n windows
  */
-static struct request make_request(enum kind kind, size_t n)
+static struct request make_request(enum kind kind, size_t n, uint16_t settle)
 {
-    struct request r = {.n = n, .len = n / 2, .h = 2, .windows_most = n, .covered_most = n};
+    struct request r = {.n = n, .len = n / 2, .h = 2, .settle = settle, .windows_most = n, .covered_most = n};
     for (size_t j = 0; j < n; j++) {
         switch (kind) {
         case FEW: set_slot(&r, j, j % 8 != 0 && j % 8 != 5, true); break;
@@ -73,7 +73,7 @@ static struct request make_request(enum kind kind, size_t n)
 
 static struct icecoppice_answer ask(filter *f, struct request *r)
 {
-    return f(0, r->len, r->h, 0, r->windows_most, 0, r->covered_most,
+    return f(0, r->len, r->h, r->settle, 0, r->windows_most, 0, r->covered_most,
              r->lowest, r->n, r->highest, r->n, r->marks, r->n);
 }
 
@@ -110,18 +110,59 @@ static void compare(const struct request *r)
     }
 }
 
-static void print_times(enum kind kind, size_t n)
+static void print_heading(const char *number)
 {
-    struct request r = make_request(kind, n);
+    printf("%-12s %5s %12s %12s %8s\n", "request", number, "library", "plain C", "ratio");
+}
+
+/* A line for a request of this kind, with the number that tells it from the others of the kind. */
+static void print_times(const struct request *r, enum kind kind, size_t number)
+{
     double library[SAMPLES], plain[SAMPLES];
-    compare(&r);
-    unsigned library_calls = calls_for_sample(icecoppice_filter, &r), plain_calls = calls_for_sample(plain_filter, &r);
+    unsigned library_calls = calls_for_sample(icecoppice_filter, r), plain_calls = calls_for_sample(plain_filter, r);
     for (unsigned i = 0; i < SAMPLES; i++) {
-        library[i] = time_calls(icecoppice_filter, &r, library_calls);
-        plain[i] = time_calls(plain_filter, &r, plain_calls);
+        library[i] = time_calls(icecoppice_filter, r, library_calls);
+        plain[i] = time_calls(plain_filter, r, plain_calls);
     }
     double l = median(library, SAMPLES), p = median(plain, SAMPLES);
-    printf("%-12s %5zu %12.2f %12.2f %8.2f\n", kind_names[kind], n, l / 1000, p / 1000, l / p);
+    printf("%-12s %5zu %12.2f %12.2f %8.2f\n", kind_names[kind], number, l / 1000, p / 1000, l / p);
+}
+
+static void compare_settle_counts(enum kind kind, size_t n)
+{
+    for (uint16_t settle = 0; settle <= ICECOPPICE_MAX_SETTLE; settle++) {
+        struct request r = make_request(kind, n, settle);
+        compare(&r);
+    }
+}
+
+/* By the number of slots, with the settle count 0. */
+static void print_times_by_slots(void)
+{
+    printf("median of %d samples, microseconds of one call\n", SAMPLES);
+    print_heading("slots");
+    for (enum kind kind = 0; kind < KINDS; kind++) {
+        for (size_t n = 8; n <= ICECOPPICE_SLOTS; n *= 2) {
+            struct request r = make_request(kind, n, 0);
+            compare_settle_counts(kind, n);
+            print_times(&r, kind, n);
+        }
+    }
+}
+
+/* By the settle count, for those requests of the most slots that have a plan. */
+static void print_times_by_settle(void)
+{
+    printf("\nthe same at %d slots with settle counts above 0, where there is a plan\n", ICECOPPICE_SLOTS);
+    print_heading("count");
+    for (enum kind kind = 0; kind < KINDS; kind++) {
+        for (uint16_t settle = 1; settle <= TIMED_SETTLE; settle++) {
+            const struct request r = make_request(kind, ICECOPPICE_SLOTS, settle);
+            struct request copy = r;
+            if (ask(plain_filter, &copy).code == ICECOPPICE_YES)
+                print_times(&r, kind, settle);
+        }
+    }
 }
 
 /* The stack that a call uses is measured on a stack of its own, filled with PAINT beforehand. */
@@ -158,7 +199,7 @@ static void print_stack(void)
 {
     size_t most = 0;
     for (enum kind kind = 0; kind < KINDS; kind++) {
-        on_stack_request = make_request(kind, ICECOPPICE_SLOTS);
+        on_stack_request = make_request(kind, ICECOPPICE_SLOTS, 0);
         size_t touched = bytes_touched(run_filter);
         if (touched > most)
             most = touched;
@@ -184,9 +225,9 @@ static int print_data(const char *kind_name, const char *n)
         fprintf(stderr, "usage: bench [data few|many|open|alternating 8..%d]\n", ICECOPPICE_SLOTS);
         return 2;
     }
-    struct request r = make_request(kind, slots);
-    printf("n = %zu; k = 0; len = %u; h = %u; windows_most = %u; covered_most = %u;\n",
-           r.n, r.len, r.h, r.windows_most, r.covered_most);
+    struct request r = make_request(kind, slots, 0);
+    printf("n = %zu; k = 0; len = %u; h = %u; settle = %u; windows_most = %u; covered_most = %u;\n",
+           r.n, r.len, r.h, r.settle, r.windows_most, r.covered_most);
     print_numbers("lowest", r.lowest, r.n);
     print_numbers("highest", r.highest, r.n);
     return 0;
@@ -196,12 +237,8 @@ int main(int count, char **arguments)
 {
     if (count == 4 && strcmp(arguments[1], "data") == 0)
         return print_data(arguments[2], arguments[3]);
-    printf("median of %d samples, microseconds of one call\n", SAMPLES);
-    printf("%-12s %5s %12s %12s %8s\n", "request", "slots", "library", "plain C", "ratio");
-    for (enum kind kind = 0; kind < KINDS; kind++) {
-        for (size_t n = 8; n <= ICECOPPICE_SLOTS; n *= 2)
-            print_times(kind, n);
-    }
+    print_times_by_slots();
+    print_times_by_settle();
     print_stack();
     print_watch_table();
     return 0;

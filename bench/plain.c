@@ -9,7 +9,7 @@ enum slot_class { UNDER, OVER, EITHER };
 
 struct problem {
     size_t n;
-    uint16_t len, h, windows_most, covered_most;
+    uint16_t len, h, settle, windows_most, covered_most;
     uint8_t classes[ICECOPPICE_SLOTS];
 };
 
@@ -66,9 +66,24 @@ static void next_row(const struct problem *p, const struct row *after, struct ro
     }
 }
 
+/* Sets `after` to what comes after a window: the row, but no plan where one of the next `settle` slots must be over. */
+static void close_windows(const struct problem *p, const struct row *row, struct row *after)
+{
+    uint16_t lacking = 0;
+    after->least[p->n] = row->least[p->n];
+    for (size_t j = p->n; j-- > 0;) {
+        if (p->classes[j] == OVER)
+            lacking = p->settle;
+        else if (lacking > 0)
+            lacking--;
+        after->least[j] = lacking == 0 ? row->least[j] : NONE;
+    }
+}
+
 /*
- * Sets `after` to the row for w - 1 windows. Gives how many of the window counts 0 to w - 1 are too few for a plan
- * within the covered maximum, and sets `thrift` to the least covered count with the first that is not, if there is one.
+ * Sets `after` to what comes after a window, with w - 1 windows left. Gives how many of the window counts 0 to w - 1
+ * are too few for a plan within the covered maximum, and sets `thrift` to the least covered count with the first that
+ * is not, if there is one.
  */
 static uint16_t rows(const struct problem *p, uint16_t w, struct row *after, uint16_t *thrift)
 {
@@ -79,7 +94,7 @@ static uint16_t rows(const struct problem *p, uint16_t w, struct row *after, uin
     for (uint16_t i = 0; i < w; i++) {
         struct row row;
         next_row(p, after, &row);
-        *after = row;
+        close_windows(p, &row, after);
         if (exceeding == i)
             *thrift = row.least[0];
         exceeding += row.least[0] > p->covered_most;
@@ -140,7 +155,7 @@ static void draw(const struct problem *p, uint8_t *marks)
     }
 }
 
-static uint16_t refusal(uint16_t len, uint16_t h, uint16_t windows_least, uint16_t windows_most,
+static uint16_t refusal(uint16_t len, uint16_t h, uint16_t settle, uint16_t windows_least, uint16_t windows_most,
                         uint16_t covered_least, uint16_t covered_most,
                         size_t n, size_t highest_length, size_t marks_length)
 {
@@ -156,6 +171,8 @@ static uint16_t refusal(uint16_t len, uint16_t h, uint16_t windows_least, uint16
         return ICECOPPICE_WINDOW_COUNTS;
     if (covered_least > covered_most || covered_most > n)
         return ICECOPPICE_COVERED_COUNTS;
+    if (settle > ICECOPPICE_MAX_SETTLE)
+        return ICECOPPICE_SETTLE;
     return 0;
 }
 
@@ -166,7 +183,7 @@ static enum slot_class class_of(int32_t k, int32_t lowest, int32_t highest)
     return lowest > k ? OVER : EITHER;
 }
 
-struct icecoppice_answer plain_filter(int32_t k, uint16_t len, uint16_t h,
+struct icecoppice_answer plain_filter(int32_t k, uint16_t len, uint16_t h, uint16_t settle,
                                       uint16_t windows_least, uint16_t windows_most,
                                       uint16_t covered_least, uint16_t covered_most,
                                       int32_t *lowest, size_t lowest_length,
@@ -175,11 +192,12 @@ struct icecoppice_answer plain_filter(int32_t k, uint16_t len, uint16_t h,
 {
     struct icecoppice_answer answer = {0};
     size_t n = lowest_length;
-    answer.code = refusal(len, h, windows_least, windows_most, covered_least, covered_most,
+    answer.code = refusal(len, h, settle, windows_least, windows_most, covered_least, covered_most,
                           n, highest_length, marks_length);
     if (answer.code != 0)
         return answer;
-    struct problem p = {.n = n, .len = len, .h = h, .windows_most = windows_most, .covered_most = covered_most};
+    struct problem p = {.n = n, .len = len, .h = h, .settle = settle, .windows_most = windows_most,
+                        .covered_most = covered_most};
     for (size_t j = 0; j < n; j++) {
         if (lowest[j] > highest[j])
             return (struct icecoppice_answer){.code = ICECOPPICE_CROSSED, .slot = j};

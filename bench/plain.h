@@ -4,7 +4,7 @@
 
 #include "../include/icecoppice.h"
 
-struct icecoppice_answer plain_filter(int32_t k, uint16_t len, uint16_t h,
+struct icecoppice_answer plain_filter(int32_t k, uint16_t len, uint16_t h, uint16_t settle,
                                       uint16_t windows_least, uint16_t windows_most,
                                       uint16_t covered_least, uint16_t covered_most,
                                       int32_t *lowest, size_t lowest_length,

@@ -55,6 +55,8 @@ static const char *refusal(uint16_t code)
     case ICECOPPICE_BRIDGES: return "more bridges than a window of this length can hold";
     case ICECOPPICE_WINDOW_COUNTS: return "the window counts are crossed or above the number of slots";
     case ICECOPPICE_COVERED_COUNTS: return "the covered counts are crossed or above the number of slots";
+    case ICECOPPICE_SETTLE: return "the settle count is above 8";
+    case ICECOPPICE_STORED_SETTLE: return "a card holds only the settle count 1";
     case ICECOPPICE_CROSSED: return "the lowest load is above the highest";
     case ICECOPPICE_PAGED_SLOTS: return "there have to be at most 12 slots to page through the plans";
     case ICECOPPICE_GIVEN_PLAN: return "the given marks are no plan of the request";
@@ -156,7 +158,7 @@ static void print_counts(const char *what, uint16_t least, uint16_t most, struct
 
 static void print_answer(const struct burst *b, const struct icecoppice_answer *a)
 {
-    printf("threshold %" PRId32 ", window length %u, bridges %u\n", b->k, b->len, b->h);
+    printf("threshold %" PRId32 ", window length %u, bridges %u, settle count %u\n", b->k, b->len, b->h, b->settle);
     if (a->code == ICECOPPICE_NO) {
         printf("no plan\n");
     } else if (a->code != ICECOPPICE_YES) {
@@ -175,7 +177,7 @@ int plan_burst(struct burst *b)
     memcpy(b->lowest, b->given_lowest, b->n * sizeof *b->lowest);
     memcpy(b->highest, b->given_highest, b->n * sizeof *b->highest);
     struct icecoppice_answer a = icecoppice_filter(
-        b->k, b->len, b->h, b->windows.lowest, b->windows.highest, b->covered.lowest, b->covered.highest,
+        b->k, b->len, b->h, b->settle, b->windows.lowest, b->windows.highest, b->covered.lowest, b->covered.highest,
         b->lowest, b->n, b->highest, b->n, b->marks, b->n);
     print_answer(b, &a);
     return a.code == ICECOPPICE_YES ? 0 : 1;

@@ -7,7 +7,7 @@
 
 struct burst {
     int32_t k;
-    uint16_t len, h;
+    uint16_t len, h, settle;
     struct range windows, covered;
     size_t n;
     int32_t *given_lowest, *given_highest; /* as asked */

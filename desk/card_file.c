@@ -28,6 +28,7 @@ bool read_card(const struct card *c, struct burst *b)
     b->k = r.k;
     b->len = r.len;
     b->h = r.h;
+    b->settle = r.settle;
     b->windows = (struct range){r.windows_least, r.windows_most};
     b->covered = (struct range){r.covered_least, r.covered_most};
     b->n = r.n;
@@ -48,7 +49,7 @@ bool write_card(const char *name, const struct burst *b)
 {
     uint8_t bytes[ICECOPPICE_WRITTEN_BYTES];
     struct icecoppice_writing w = icecoppice_write(
-        b->k, b->len, b->h, b->windows.lowest, b->windows.highest, b->covered.lowest, b->covered.highest,
+        b->k, b->len, b->h, b->settle, b->windows.lowest, b->windows.highest, b->covered.lowest, b->covered.highest,
         b->given_lowest, b->n, b->given_highest, b->n, bytes, sizeof bytes);
     if (w.code != ICECOPPICE_YES) {
         print_refusal(w.code, w.slot);

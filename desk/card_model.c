@@ -2,7 +2,7 @@
 
 #include <string.h>
 
-enum { DISTANCE_BYTES = 2, LOAD_BYTES = 4, FORM = 1 };
+enum { DISTANCE_BYTES = 2, LOAD_BYTES = 4, FORM = 1, SETTLE = 1 };
 
 static const uint8_t end_bytes[] = {0x54, 0x43};
 
@@ -68,6 +68,7 @@ static struct settings settings_of(const uint8_t *trailer)
         .k = load_at(trailer + K_PLACE),
         .len = trailer[LEN_PLACE],
         .h = trailer[H_PLACE],
+        .settle = SETTLE,
         .windows_least = trailer[WINDOWS_PLACE],
         .windows_most = trailer[WINDOWS_PLACE + 1],
         .covered_least = trailer[COVERED_PLACE],
@@ -110,6 +111,7 @@ struct icecoppice_reading model_taken(const struct settings *s, size_t n)
         .k = s->k,
         .len = s->len,
         .h = s->h,
+        .settle = s->settle,
         .windows_least = s->windows_least,
         .windows_most = s->windows_most,
         .covered_least = s->covered_least,
@@ -155,6 +157,8 @@ struct icecoppice_writing model_write(const struct settings *s, const int32_t *l
     struct icecoppice_answer refused = search_refusal(s, lowest, lowest_length, highest, highest_length, lowest_length);
     if (refused.code != 0)
         return (struct icecoppice_writing){.code = refused.code, .slot = refused.slot};
+    if (s->settle != SETTLE)
+        return (struct icecoppice_writing){.code = ICECOPPICE_STORED_SETTLE};
     if (buffer_length < RECORD_BYTES * lowest_length + TRAILER_BYTES)
         return (struct icecoppice_writing){.code = ICECOPPICE_BUFFER_LENGTH};
     size_t length = model_file(buffer, (const uint8_t[]){0}, 0, s, lowest, highest, lowest_length);

@@ -1,7 +1,7 @@
 /*
  * A second opinion on form 1, the file on the card: the bytes of a file; what the reader and a look-up have to answer
  * for any bytes, by rows 11 to 17 and 19 of document 01's table; and what the writer has to answer for any request, by
- * the search's refusals and row 18. It shares no code with the library.
+ * the search's refusals and rows 28 and 18. It shares no code with the library.
  */
 #ifndef CARD_MODEL_H
 #define CARD_MODEL_H
@@ -27,7 +27,10 @@ enum {
 /* Writes the distance into a trailer. */
 void put_distance(uint8_t *trailer, uint16_t distance);
 
-/* Writes the file with this note and n slots, and gives its length. Each setting but k has to fit into a byte. */
+/*
+ * Writes the file with this note and n slots, and gives its length. Each setting but k has to fit into a byte. The
+ * settle count goes into none: every file is read with 1.
+ */
 size_t model_file(uint8_t *file, const uint8_t *note, size_t note_length, const struct settings *s,
                   const int32_t *lowest, const int32_t *highest, size_t n);
 

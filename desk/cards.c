@@ -39,13 +39,14 @@ _Noreturn static void fail_card(const char *what, const struct card *c)
 
 static void print_reading(const char *whose, const struct icecoppice_reading *r)
 {
-    printf("%s: code %u n %zu k %" PRId32 " len %u h %u windows %u..%u covered %u..%u\n", whose, r->code, r->n, r->k,
-           r->len, r->h, r->windows_least, r->windows_most, r->covered_least, r->covered_most);
+    printf("%s: code %u n %zu k %" PRId32 " len %u h %u settle %u windows %u..%u covered %u..%u\n", whose, r->code,
+           r->n, r->k, r->len, r->h, r->settle, r->windows_least, r->windows_most, r->covered_least, r->covered_most);
 }
 
 static bool same_reading(const struct icecoppice_reading *a, const struct icecoppice_reading *b)
 {
     return a->code == b->code && a->n == b->n && a->k == b->k && a->len == b->len && a->h == b->h &&
+           a->settle == b->settle &&
            a->windows_least == b->windows_least && a->windows_most == b->windows_most &&
            a->covered_least == b->covered_least && a->covered_most == b->covered_most;
 }
@@ -146,12 +147,12 @@ void check_read_back(const uint8_t *file, size_t file_length, const struct reque
     check_whole_card(&c, &made);
 }
 
-/* The reader checks neither the settings nor the ranges, so they are any. */
+/* The reader checks neither the settings nor the ranges, so they are any, but for the settle count. */
 static struct request some_contents(size_t n)
 {
     struct request r = blank_request();
     int32_t any = INT32_MIN + (int64_t)below(UINT32_MAX);
-    r.settings = (struct settings){one_in(2) ? any : some_load(0), below(256), below(256), below(256), below(256),
+    r.settings = (struct settings){one_in(2) ? any : some_load(0), below(256), below(256), 1, below(256), below(256),
                                    below(256), below(256)};
     r.lowest_length = r.highest_length = n;
     for (size_t j = MARGIN; j < MARGIN + n; j++) {
@@ -244,7 +245,7 @@ static void check_case_a(void)
         32, 0, 4, 3, 0, 0, 1, 0, 4, 0, 0, 0, 0, 1, 0x54, 0x43,
     };
     struct request made = blank_request();
-    made.settings = (struct settings){0, 3, 0, 0, 1, 0, 4};
+    made.settings = (struct settings){0, 3, 0, 1, 0, 1, 0, 4};
     made.lowest_length = made.highest_length = 4;
     memcpy(made.lowest + MARGIN, (int32_t[]){1, -2, 5, 0}, 4 * sizeof *made.lowest);
     memcpy(made.highest + MARGIN, (int32_t[]){3, 4, 5, 0}, 4 * sizeof *made.highest);

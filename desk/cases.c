@@ -7,7 +7,7 @@
 
 struct worked {
     const char *name;
-    struct settings settings; /* k, len, h, windows, covered */
+    struct settings settings; /* k, len, h, settle, windows, covered */
     size_t n;
     int32_t ranges[2][8][2]; /* as given, and as they are afterwards */
     struct icecoppice_answer answer; /* code, slot, windows, covered, thrift */
@@ -23,27 +23,29 @@ struct worked {
 #define RANGES_OPEN {{1, 1}, {0, 1}, {1, 1}}
 
 static const struct worked cases[] = {
-    {"A", {0, 3, 0, 0, 1, 0, 4}, 4, {RANGES_A, {{1, 3}, {1, 4}, {5, 5}, {0, 0}}}, {0, 0, 1, 1, 3, 4, 3}, {1, 2, 2, 0}},
-    {"B", {0, 3, 1, 0, 1, 0, 4}, 4, {RANGES_A, RANGES_A}, {0, 0, 1, 1, 3, 4, 3}, {1, 2, 2, 0}},
-    {"C", {0, 2, 0, 0, 1, 0, 4}, 4, {RANGES_A, RANGES_A}, {1, 0, 0, 0, 0, 0, 0}, {0}},
-    {"D", {0, 3, 0, 0, 2, 0, 7}, 7, {RANGES_D, RANGES_D}, {0, 0, 2, 2, 4, 7, 4}, {0, 0, 1, 0, 1, 2, 2}},
-    {"E", {0, 3, 0, 0, 2, 0, 4}, 7,
+    {"A", {0, 3, 0, 0, 0, 1, 0, 4}, 4,
+     {RANGES_A, {{1, 3}, {1, 4}, {5, 5}, {0, 0}}}, {0, 0, 1, 1, 3, 4, 3}, {1, 2, 2, 0}},
+    {"B", {0, 3, 1, 0, 0, 1, 0, 4}, 4, {RANGES_A, RANGES_A}, {0, 0, 1, 1, 3, 4, 3}, {1, 2, 2, 0}},
+    {"C", {0, 2, 0, 0, 0, 1, 0, 4}, 4, {RANGES_A, RANGES_A}, {1, 0, 0, 0, 0, 0, 0}, {0}},
+    {"D", {0, 3, 0, 0, 0, 2, 0, 7}, 7, {RANGES_D, RANGES_D}, {0, 0, 2, 2, 4, 7, 4}, {0, 0, 1, 0, 1, 2, 2}},
+    {"E", {0, 3, 0, 0, 0, 2, 0, 4}, 7,
      {RANGES_D, {{0, 0}, {0, 0}, {1, 1}, {0, 1}, {1, 1}, {0, 1}, {1, 1}}}, {0, 0, 2, 2, 4, 4, 4},
      {0, 0, 1, 0, 1, 2, 2}},
-    {"F", {0, 5, 0, 0, 2, 0, 7}, 8,
+    {"F", {0, 5, 0, 0, 0, 2, 0, 7}, 8,
      {RANGES_F, {{1, 1}, {1, 1}, {1, 1}, {1, 1}, {0, 0}, {1, 1}, {1, 1}, {1, 1}}}, {0, 0, 2, 2, 7, 7, 7},
      {1, 2, 2, 2, 0, 1, 2, 2}},
-    {"G", {0, 5, 0, 0, 4, 0, 8}, 8, {RANGES_F, RANGES_F}, {0, 0, 2, 4, 5, 8, 7}, {1, 0, 1, 1, 0, 1, 2, 2}},
-    {"H", {0, 1, 0, 0, 1, 0, 1}, 1, {{{0, 0}}, {{0, 0}}}, {0, 0, 0, 1, 0, 1, 0}, {0}},
-    {"H, over", {0, 1, 0, 0, 0, 0, 1}, 1, {{{1, 1}}, {{1, 1}}}, {1, 0, 0, 0, 0, 0, 0}, {0}},
-    {"I", {INT32_MAX, 1, 0, 0, 0, 0, 2}, 2, {RANGES_I, RANGES_I}, {0, 0, 0, 0, 0, 2, 0}, {0, 0}},
-    {"J", {0, 3, 0, 0, 7, 0, 7}, 7, {RANGES_J, RANGES_J}, {0, 0, 3, 7, 7, 7, 7}, {1, 1, 1, 1, 1, 1, 1}},
-    {"K", {0, 2, 1, 0, 1, 0, 4}, 4, {RANGES_A, RANGES_A}, {24, 0, 0, 0, 0, 0, 0}, {0}},
-    {"D, windows 0..3, covered 0..4", {0, 3, 0, 0, 3, 0, 4}, 7,
+    {"G", {0, 5, 0, 0, 0, 4, 0, 8}, 8, {RANGES_F, RANGES_F}, {0, 0, 2, 4, 5, 8, 7}, {1, 0, 1, 1, 0, 1, 2, 2}},
+    {"H", {0, 1, 0, 0, 0, 1, 0, 1}, 1, {{{0, 0}}, {{0, 0}}}, {0, 0, 0, 1, 0, 1, 0}, {0}},
+    {"H, over", {0, 1, 0, 0, 0, 0, 0, 1}, 1, {{{1, 1}}, {{1, 1}}}, {1, 0, 0, 0, 0, 0, 0}, {0}},
+    {"I", {INT32_MAX, 1, 0, 0, 0, 0, 0, 2}, 2, {RANGES_I, RANGES_I}, {0, 0, 0, 0, 0, 2, 0}, {0, 0}},
+    {"J", {0, 3, 0, 0, 0, 7, 0, 7}, 7, {RANGES_J, RANGES_J}, {0, 0, 3, 7, 7, 7, 7}, {1, 1, 1, 1, 1, 1, 1}},
+    {"J, settle 1", {0, 3, 0, 1, 0, 7, 0, 7}, 7, {RANGES_J, RANGES_J}, {1, 0, 0, 0, 0, 0, 0}, {0}},
+    {"K", {0, 2, 1, 0, 0, 1, 0, 4}, 4, {RANGES_A, RANGES_A}, {24, 0, 0, 0, 0, 0, 0}, {0}},
+    {"D, windows 0..3, covered 0..4", {0, 3, 0, 0, 0, 3, 0, 4}, 7,
      {RANGES_D, {{0, 0}, {0, 1}, {1, 1}, {0, 1}, {1, 1}, {0, 1}, {1, 1}}}, {0, 0, 2, 3, 3, 4, 4},
      {0, 0, 1, 0, 1, 0, 1}},
-    {"T-02, under", {0, 3, 0, 0, 3, 0, 3}, 3, {RANGES_UNDER, RANGES_UNDER}, {0, 0, 2, 3, 2, 3, 2}, {1, 0, 1}},
-    {"T-02, open", {0, 3, 0, 0, 3, 0, 3}, 3, {RANGES_OPEN, RANGES_OPEN}, {0, 0, 1, 3, 2, 3, 3}, {1, 0, 1}},
+    {"T-02, under", {0, 3, 0, 0, 0, 3, 0, 3}, 3, {RANGES_UNDER, RANGES_UNDER}, {0, 0, 2, 3, 2, 3, 2}, {1, 0, 1}},
+    {"T-02, open", {0, 3, 0, 0, 0, 3, 0, 3}, 3, {RANGES_OPEN, RANGES_OPEN}, {0, 0, 1, 3, 2, 3, 3}, {1, 0, 1}},
 };
 
 static struct request request_of(const struct worked *c)
@@ -76,7 +78,7 @@ static void check_higher_threshold(void)
     static const uint8_t plans[2][3] = {{1, 2, 2}, {1, 0, 1}};
     for (int32_t k = 0; k < 2; k++) {
         struct request r = blank_request();
-        r.settings = (struct settings){k, 3, 0, 0, 3, 0, 3};
+        r.settings = (struct settings){k, 3, 0, 0, 0, 3, 0, 3};
         r.lowest_length = r.marks_length = 3;
         memcpy(r.lowest + MARGIN, (int32_t[]){5, 1, 5}, 3 * sizeof *r.lowest);
         memcpy(r.marks + MARGIN, plans[k], 3);

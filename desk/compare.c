@@ -12,6 +12,9 @@ enum size { SMALL, LARGE, SIZES };
 static unsigned long filter_tally[SIZES][ICECOPPICE_CROSSED + 1], judge_tally[SIZES][ICECOPPICE_CROSSED + 1];
 static unsigned long under_cut_tally, over_cut_tally;
 
+/* How many answers would be others with the settle count 0, refusals aside. */
+static unsigned long filter_settle_tally, judge_settle_tally;
+
 static enum size size_of(const struct request *r)
 {
     return r->lowest_length > SEARCH_SLOTS && r->lowest_length <= ICECOPPICE_SLOTS ? LARGE : SMALL;
@@ -29,7 +32,7 @@ struct request blank_request(void)
 static void print_request(const struct request *r)
 {
     const struct settings *s = &r->settings;
-    printf("  k %" PRId32 " len %u h %u windows %u..%u covered %u..%u\n", s->k, s->len, s->h,
+    printf("  k %" PRId32 " len %u h %u settle %u windows %u..%u covered %u..%u\n", s->k, s->len, s->h, s->settle,
            s->windows_least, s->windows_most, s->covered_least, s->covered_most);
     printf("  lowest or loads (%zu):", r->lowest_length);
     for (size_t j = 0; j < r->lowest_length; j++)
@@ -93,7 +96,7 @@ static struct icecoppice_answer ask_filter(struct request *r)
     struct request kept = *r;
     const struct settings *s = &r->settings;
     struct icecoppice_answer a = icecoppice_filter(
-        s->k, s->len, s->h, s->windows_least, s->windows_most, s->covered_least, s->covered_most,
+        s->k, s->len, s->h, s->settle, s->windows_least, s->windows_most, s->covered_least, s->covered_most,
         r->lowest + MARGIN, r->lowest_length, r->highest + MARGIN, r->highest_length,
         r->marks + MARGIN, r->marks_length);
     if (a.code == ICECOPPICE_YES)
@@ -108,7 +111,7 @@ static struct icecoppice_verdict ask_judge(const struct request *r)
     struct request given = *r;
     const struct settings *s = &r->settings;
     struct icecoppice_verdict v = icecoppice_judge(
-        s->k, s->len, s->h, s->windows_least, s->windows_most, s->covered_least, s->covered_most,
+        s->k, s->len, s->h, s->settle, s->windows_least, s->windows_most, s->covered_least, s->covered_most,
         given.lowest + MARGIN, r->lowest_length, given.marks + MARGIN, r->marks_length);
     if (!same_buffers(&given, r))
         fail("the judge wrote", r);
@@ -121,18 +124,34 @@ static void tally_cuts(const struct request *given, const struct request *narrow
     over_cut_tally += memcmp(given->highest, narrowed->highest, sizeof given->highest) != 0;
 }
 
+static struct icecoppice_answer search_request(struct request *r)
+{
+    return search_filter(&r->settings, r->lowest + MARGIN, r->lowest_length, r->highest + MARGIN, r->highest_length,
+                         r->marks + MARGIN, r->marks_length);
+}
+
+static void tally_settle(const struct request *given, const struct request *want,
+                         const struct icecoppice_answer *wanted)
+{
+    struct request touching = *given;
+    if (given->settings.settle == 0 || wanted->code > ICECOPPICE_NO)
+        return;
+    touching.settings.settle = 0;
+    struct icecoppice_answer a = search_request(&touching);
+    filter_settle_tally += !same_answer(&a, wanted) || !same_buffers(&touching, want);
+}
+
 static void hold_to_search(const struct request *given, const struct request *left, const struct icecoppice_answer *a)
 {
     struct request want = *given;
-    struct icecoppice_answer wanted = search_filter(&given->settings, want.lowest + MARGIN, given->lowest_length,
-                                                    want.highest + MARGIN, given->highest_length,
-                                                    want.marks + MARGIN, given->marks_length);
+    struct icecoppice_answer wanted = search_request(&want);
     if (!same_answer(a, &wanted) || !same_buffers(left, &want)) {
         print_answer("search", &wanted);
         print_request(&want);
         fail_filter("the filter differs; asked was:", given, left, a);
     }
     tally_cuts(given, &want);
+    tally_settle(given, &want, &wanted);
 }
 
 /* Whether each slot lost its under part, its over part or nothing. A slot that lost both could not be in a plan. */
@@ -183,17 +202,23 @@ struct icecoppice_answer compare_filter(struct request *r)
     return a;
 }
 
+static struct icecoppice_verdict search_verdict(const struct request *r, const struct settings *s)
+{
+    return search_judge(s, r->lowest + MARGIN, r->lowest_length, r->marks + MARGIN, r->marks_length);
+}
+
 struct icecoppice_verdict compare_judge(const struct request *r)
 {
-    struct icecoppice_verdict got = ask_judge(r);
-    struct icecoppice_verdict wanted = search_judge(&r->settings, r->lowest + MARGIN, r->lowest_length,
-                                                    r->marks + MARGIN, r->marks_length);
+    struct settings touching = r->settings;
+    touching.settle = 0;
+    struct icecoppice_verdict got = ask_judge(r), wanted = search_verdict(r, &r->settings);
     if (got.code != wanted.code || got.windows != wanted.windows || got.covered != wanted.covered) {
         printf("library: code %u windows %u covered %u\n", got.code, got.windows, got.covered);
         printf("search: code %u windows %u covered %u\n", wanted.code, wanted.windows, wanted.covered);
         fail("the judge differs; asked was:", r);
     }
     judge_tally[size_of(r)][got.code]++;
+    judge_settle_tally += got.code == ICECOPPICE_NO && search_verdict(r, &touching).code == ICECOPPICE_YES;
     return got;
 }
 
@@ -209,7 +234,7 @@ void print_kind(const char *kind, unsigned long tally)
 void print_refusals(const char *whose, const unsigned long *tally, unsigned first, unsigned last)
 {
     for (unsigned code = first; code <= last; code++) {
-        if (code > ICECOPPICE_COVERED_COUNTS && code < ICECOPPICE_CROSSED)
+        if (code > ICECOPPICE_SETTLE && code < ICECOPPICE_CROSSED)
             continue;
         char kind[32];
         snprintf(kind, sizeof kind, "%s: refused %u", whose, code);
@@ -223,14 +248,16 @@ void print_tally(void)
     print_kind("filter: an under part cut", under_cut_tally);
     print_kind("filter: an over part cut", over_cut_tally);
     print_kind("filter: no plan", filter_tally[SMALL][ICECOPPICE_NO]);
+    print_kind("filter: another at settle 0", filter_settle_tally);
     print_refusals("filter", filter_tally[SMALL], ICECOPPICE_FIRST_LENGTH, ICECOPPICE_CROSSED);
     print_kind("filter, large: planned", filter_tally[LARGE][ICECOPPICE_YES]);
     print_kind("filter, large: no plan", filter_tally[LARGE][ICECOPPICE_NO]);
     print_refusals("filter, large", filter_tally[LARGE], ICECOPPICE_OTHER_LENGTH, ICECOPPICE_CROSSED);
     print_kind("judge: yes", judge_tally[SMALL][ICECOPPICE_YES]);
     print_kind("judge: no", judge_tally[SMALL][ICECOPPICE_NO]);
-    print_refusals("judge", judge_tally[SMALL], ICECOPPICE_FIRST_LENGTH, ICECOPPICE_COVERED_COUNTS);
+    print_kind("judge: no, but yes at settle 0", judge_settle_tally);
+    print_refusals("judge", judge_tally[SMALL], ICECOPPICE_FIRST_LENGTH, ICECOPPICE_SETTLE);
     print_kind("judge, large: yes", judge_tally[LARGE][ICECOPPICE_YES]);
     print_kind("judge, large: no", judge_tally[LARGE][ICECOPPICE_NO]);
-    print_refusals("judge, large", judge_tally[LARGE], ICECOPPICE_OTHER_LENGTH, ICECOPPICE_COVERED_COUNTS);
+    print_refusals("judge, large", judge_tally[LARGE], ICECOPPICE_OTHER_LENGTH, ICECOPPICE_SETTLE);
 }

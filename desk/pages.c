@@ -12,7 +12,7 @@ void usage(void)
 
 static struct icecoppice_page next_plan(struct burst *b, const uint8_t *given, size_t given_length)
 {
-    return icecoppice_next_plan(b->k, b->len, b->h, b->windows.lowest, b->windows.highest, b->covered.lowest,
+    return icecoppice_next_plan(b->k, b->len, b->h, b->settle, b->windows.lowest, b->windows.highest, b->covered.lowest,
                                 b->covered.highest, b->given_lowest, b->n, b->given_highest, b->n,
                                 given, given_length, b->marks, b->n);
 }

@@ -19,13 +19,13 @@ struct query {
 };
 
 static struct plan_list list; /* of the request at hand */
-static unsigned long tally[ICECOPPICE_GIVEN_PLAN + 1], first_tally, none_tally, large_tally, whole_tally;
+static unsigned long tally[ICECOPPICE_GIVEN_PLAN + 1], first_tally, none_tally, large_tally, whole_tally, settle_tally;
 
 static struct icecoppice_page ask(const struct settings *s, const int32_t *lowest, size_t lowest_length,
                                   const int32_t *highest, size_t highest_length, const uint8_t *given,
                                   size_t given_length, uint8_t *marks, size_t marks_length)
 {
-    return icecoppice_next_plan(s->k, s->len, s->h, s->windows_least, s->windows_most, s->covered_least,
+    return icecoppice_next_plan(s->k, s->len, s->h, s->settle, s->windows_least, s->windows_most, s->covered_least,
                                 s->covered_most, lowest, lowest_length, highest, highest_length, given, given_length,
                                 marks, marks_length);
 }
@@ -113,12 +113,24 @@ static struct icecoppice_page wanted_page(struct query *want)
     return listed_page(want, place_of_plan(&list, want->given + MARGIN, want->given_length) + 1);
 }
 
+/* Tallies whether the search would have another answer with the settle count 0, refusals of the request aside. */
+static void tally_settle(struct query touching, const struct query *want, uint16_t wanted)
+{
+    bool accepted = wanted <= ICECOPPICE_NO || wanted == ICECOPPICE_GIVEN_PLAN;
+    if (!accepted || touching.asked.settings.settle == 0 || touching.asked.lowest_length > SEARCH_SLOTS)
+        return;
+    touching.asked.settings.settle = 0;
+    settle_tally += searched_page(&touching).code != wanted || !same_query(&touching, want);
+}
+
 /* Gives the code, which is the same by the library and by what it is held to. */
 static uint16_t compare_page(struct query *q)
 {
+    const struct query given = *q;
     struct query want = *q;
     struct icecoppice_page wanted = wanted_page(&want);
     hold_page(q, &want, &wanted);
+    tally_settle(given, &want, wanted.code);
     return wanted.code;
 }
 
@@ -174,22 +186,46 @@ void check_every_page(const struct request *r)
     whole_tally += list.length < PAGES;
 }
 
-/* Every slot is open, and no setting keeps a plan out: one slot more makes 3 times as many plans, less 1. */
-static void check_loosest(void)
+/* Every slot is open, and no setting but the settle count keeps a plan out. */
+static void check_loosest(size_t n, uint16_t settle, size_t plans)
 {
-    size_t plans = 1;
+    struct request r = blank_request();
+    r.settings = (struct settings){0, n, n < 3 ? 0 : n - 2, settle, 0, n, 0, n};
+    r.lowest_length = r.highest_length = r.marks_length = n;
+    for (size_t j = MARGIN; j < MARGIN + n; j++) {
+        r.lowest[j] = 0;
+        r.highest[j] = 1;
+    }
+    check_every_page(&r);
+    if (list.length != plans)
+        fail("another number of plans", &r);
+}
+
+/*
+ * How many plans that is. Slot 0 is uncovered, or it begins a window, in which each slot between the first and the last
+ * has mark 2 or 3, and after which the slots owed, as far as there are so many, are uncovered.
+ */
+static size_t loosest_plans(size_t n, size_t settle)
+{
+    if (n == 0)
+        return 1;
+    size_t plans = loosest_plans(n - 1, settle);
+    for (size_t slots = 1; slots <= n; slots++) {
+        size_t windows = slots < 3 ? 1 : (size_t)1 << (slots - 2), left = n - slots;
+        plans += windows * loosest_plans(left > settle ? left - settle : 0, settle);
+    }
+    return plans;
+}
+
+/* With the settle count 0, one slot more makes 3 times as many plans, less 1. */
+static void check_all_loosest(void)
+{
+    size_t touching = 1;
     for (size_t n = 1; n <= ICECOPPICE_PAGED; n++) {
-        struct request r = blank_request();
-        r.settings = (struct settings){0, n, n < 3 ? 0 : n - 2, 0, n, 0, n};
-        r.lowest_length = r.highest_length = r.marks_length = n;
-        for (size_t j = MARGIN; j < MARGIN + n; j++) {
-            r.lowest[j] = 0;
-            r.highest[j] = 1;
-        }
-        check_every_page(&r);
-        plans = 3 * plans - 1;
-        if (list.length != plans)
-            fail("another number of plans", &r);
+        touching = 3 * touching - 1;
+        check_loosest(n, 0, touching);
+        for (uint16_t settle = 1; settle <= ICECOPPICE_MAX_SETTLE; settle++)
+            check_loosest(n, settle, loosest_plans(n, settle));
     }
 }
 
@@ -232,9 +268,10 @@ static struct query some_query(size_t n)
 static void damage_query(struct query *q)
 {
     size_t n = q->asked.lowest_length;
-    switch (below(4)) {
+    switch (below(5)) {
     case 0: q->given_length = one_in(2) ? 0 : below(PLACES + 1); break;
     case 1: q->given[MARGIN + below(n > 0 ? n : 1)] = one_in(2) ? below(256) : below(5); break;
+    case 2: q->asked.settings.settle++; break;
     default:
         damage(&q->asked);
         if (q->given_length == n && one_in(2))
@@ -281,7 +318,7 @@ static void check_number_of_slots(size_t n)
 /* A length of 0 asks nothing of its pointer. The given plan may have it, the lent slice may not. */
 static void check_null(void)
 {
-    const struct settings s = {0, 1, 0, 0, 1, 0, 1};
+    const struct settings s = {0, 1, 0, 0, 0, 1, 0, 1};
     const int32_t low = 5, high = 5;
     uint8_t mark = 7;
     if (ask(&s, NULL, 0, NULL, 0, NULL, 0, NULL, 0).code != ICECOPPICE_FIRST_LENGTH ||
@@ -297,7 +334,7 @@ static void check_long_slices(void)
     enum { LONG = 65536, FILL = 7 };
     static int32_t low[LONG + 1], high[LONG + 1];
     static uint8_t given[LONG + 1], marks[LONG + 1];
-    const struct settings s = {0, 1, 0, 0, 1, 0, 1};
+    const struct settings s = {0, 1, 0, 0, 0, 1, 0, 1};
     marks[0] = FILL;
     if (ask(&s, low, LONG + 1, high, LONG + 1, given, LONG + 1, marks, LONG + 1).code != ICECOPPICE_FIRST_LENGTH ||
         ask(&s, low, 1, high, LONG + 1, given, 0, marks, 1).code != ICECOPPICE_OTHER_LENGTH ||
@@ -313,7 +350,7 @@ void check_paging(void)
     check_long_slices();
     for (unsigned i = 0; i < QUERIES_OF_EACH_NUMBER * (PLACES + 1); i++)
         check_number_of_slots(i % (PLACES + 1));
-    check_loosest();
+    check_all_loosest();
     for (unsigned i = 0; i < SMALL_QUERIES; i++)
         compare_some_query(small_number());
     for (unsigned i = 0; i < LARGE_QUERIES; i++)
@@ -335,4 +372,5 @@ void print_paging_tally(void)
     print_kind("paging: refused 35", tally[ICECOPPICE_GIVEN_PLAN]);
     print_kind("paging, 9 to 12 slots: a plan", large_tally);
     print_kind("paging: from first to end", whole_tally);
+    print_kind("paging: another at settle 0", settle_tally);
 }

@@ -18,9 +18,10 @@ struct front {
     uint8_t last; /* uncovered before slot 0, so that slot 0 has mark 0 or 1 */
     unsigned windows, covered;
     unsigned window_slots, bridges; /* of the last window so far */
+    unsigned owed; /* how many slots more have to be uncovered before the next window */
 };
 
-static struct front drawn_on(struct front f, uint8_t mark)
+static struct front drawn_on(const struct settings *s, struct front f, uint8_t mark)
 {
     if (mark == ICECOPPICE_FIRST) {
         f.windows++;
@@ -29,6 +30,10 @@ static struct front drawn_on(struct front f, uint8_t mark)
     f.covered += mark != ICECOPPICE_UNCOVERED;
     f.window_slots += mark != ICECOPPICE_UNCOVERED;
     f.bridges += mark == ICECOPPICE_BRIDGE;
+    if (mark != ICECOPPICE_UNCOVERED)
+        f.owed = s->settle;
+    else if (f.owed > 0)
+        f.owed--;
     f.last = mark;
     f.slots++;
     return f;
@@ -37,6 +42,11 @@ static struct front drawn_on(struct front f, uint8_t mark)
 static bool may_close(const struct front *f)
 {
     return f->last != ICECOPPICE_BRIDGE;
+}
+
+static bool may_open(const struct settings *s, const struct front *f)
+{
+    return may_close(f) && f->owed == 0 && f->windows < s->windows_most && f->covered < s->covered_most;
 }
 
 static bool may_go_on(const struct settings *s, const struct front *f)
@@ -48,7 +58,7 @@ static bool may_follow(const struct settings *s, const struct front *f, uint8_t 
 {
     switch (mark) {
     case ICECOPPICE_UNCOVERED: return may_close(f);
-    case ICECOPPICE_FIRST: return may_close(f) && f->windows < s->windows_most && f->covered < s->covered_most;
+    case ICECOPPICE_FIRST: return may_open(s, f);
     case ICECOPPICE_LATER: return may_go_on(s, f);
     default: return may_go_on(s, f) && f->bridges < s->h;
     }
@@ -78,7 +88,7 @@ static void draw_from(struct task *t, struct front f)
     for (uint8_t mark = 0; mark <= ICECOPPICE_BRIDGE; mark++) {
         if (has_load(t, f.slots, mark) && may_follow(t->s, &f, mark)) {
             t->marks[f.slots] = mark;
-            draw_from(t, drawn_on(f, mark));
+            draw_from(t, drawn_on(t->s, f, mark));
         }
     }
 }

@@ -1,7 +1,8 @@
 /*
  * A third opinion on the plans of a request, for more slots than the search can try: the plans are drawn slot by slot,
- * by what document 01 says of a mark and the one before it, and each mark is tried after the smaller ones, so that they
- * come in the order of document 02's T-03. It shares no code with the library or the search.
+ * by what document 01 says of a mark and the one before it, and by how many slots are still owed to the settle count.
+ * Each mark is tried after the smaller ones, so that they come in the order of document 02's T-03. It shares no code
+ * with the library or the search.
  */
 #ifndef PLAN_LIST_H
 #define PLAN_LIST_H
@@ -10,7 +11,7 @@
 
 /*
  * The most plans: a request of 12 slots has (3^12 + 1) / 2 of them where every slot is open, a window may have any
- * length and number of bridges, and both maximums are 12.
+ * length and number of bridges, windows may touch, and both maximums are 12.
  */
 enum { MOST_PLANS = 265721 };
 

@@ -7,6 +7,7 @@ static struct settings some_settings(size_t n)
     s.k = some_load(0);
     s.len = 1 + below(n);
     s.h = s.len < 3 || one_in(2) ? 0 : below(s.len - 1);
+    s.settle = one_in(8) ? below(ICECOPPICE_MAX_SETTLE + 1) : below(4);
     s.windows_most = below(n + 1);
     s.windows_least = below(s.windows_most + 1);
     s.covered_most = below(n + 1);
@@ -48,6 +49,8 @@ void draw_marks(const struct settings *s, uint8_t *marks, size_t n)
             bridges -= bridge;
             marks[j] = bridge ? ICECOPPICE_BRIDGE : ICECOPPICE_LATER;
         }
+        for (unsigned owed = s->settle; owed > 0 && j < n; owed--)
+            marks[j++] = ICECOPPICE_UNCOVERED;
     }
 }
 
@@ -94,7 +97,7 @@ void damage(struct request *r)
 {
     size_t n = r->lowest_length, slot = MARGIN + below(n > 0 ? n : 1);
     struct settings *s = &r->settings;
-    switch (below(12)) {
+    switch (below(13)) {
     case 0: r->lowest_length = some_length(); break;
     case 1: r->highest_length = some_length(); break;
     case 2: r->marks_length = some_length(); break;
@@ -105,6 +108,7 @@ void damage(struct request *r)
     case 7: s->windows_least = one_in(2) ? some_setting(n) : s->windows_most + 1; break;
     case 8: s->covered_most = some_setting(n); break;
     case 9: s->covered_least = one_in(2) ? some_setting(n) : s->covered_most + 1; break;
+    case 10: s->settle = one_in(2) ? some_setting(n) : ICECOPPICE_MAX_SETTLE + below(3); break;
     default:
         r->lowest[slot] = some_load(s->k);
         r->highest[slot] = some_load(s->k);

@@ -8,10 +8,11 @@ struct counts {
     unsigned windows, covered;
 };
 
-/* Marks that are legal for some loads, whatever the ranges, and their counts. */
+/* Marks that are legal for some loads where windows may touch, whatever the ranges; their counts and least gap. */
 struct drawing {
     uint8_t marks[SEARCH_SLOTS];
     struct counts counts;
+    unsigned gap;
 };
 
 struct drawings {
@@ -41,7 +42,7 @@ static bool window_fits(const uint8_t *marks, size_t n, unsigned len, unsigned h
     return slots <= len && bridges <= h;
 }
 
-/* Whether the marks keep all of the rule that does not speak of loads. */
+/* Whether the marks keep all of the rule that does not speak of loads or of the settle count. */
 static bool well_drawn(const uint8_t *marks, size_t n, unsigned len, unsigned h)
 {
     for (size_t j = 0; j < n; j++) {
@@ -67,6 +68,20 @@ static struct counts counts_of(const uint8_t *marks, size_t n)
     return c;
 }
 
+/* The least number of uncovered slots between neighbouring windows; UINT_MAX where there are fewer than two. */
+static unsigned least_gap(const uint8_t *marks, size_t n)
+{
+    unsigned least = UINT_MAX;
+    size_t last = n; /* the last covered slot so far, or n */
+    for (size_t j = 0; j < n; j++) {
+        if (marks[j] == ICECOPPICE_FIRST && last < n && j - last - 1 < least)
+            least = j - last - 1;
+        if (marks[j] != ICECOPPICE_UNCOVERED)
+            last = j;
+    }
+    return least;
+}
+
 static bool within_maximums(const struct settings *s, struct counts c)
 {
     return c.windows <= s->windows_most && c.covered <= s->covered_most;
@@ -85,8 +100,8 @@ static bool loads_exist(int32_t k, const int32_t *lowest, const int32_t *highest
 bool search_is_plan(const struct settings *s, const int32_t *lowest, const int32_t *highest, const uint8_t *marks,
                     size_t n)
 {
-    return well_drawn(marks, n, s->len, s->h) && loads_exist(s->k, lowest, highest, marks, n) &&
-           within_maximums(s, counts_of(marks, n));
+    return well_drawn(marks, n, s->len, s->h) && least_gap(marks, n) >= s->settle &&
+           loads_exist(s->k, lowest, highest, marks, n) && within_maximums(s, counts_of(marks, n));
 }
 
 /* The first of the refusals 21 and 22 that applies, or 0. The judge has one other slice; its length is given twice. */
@@ -99,7 +114,7 @@ static uint16_t length_refusal(size_t n, size_t second_length, size_t third_leng
     return 0;
 }
 
-/* The first of the refusals 23 to 26 that applies, or 0. */
+/* The first of the refusals 23 to 27 that applies, or 0. */
 static uint16_t settings_refusal(const struct settings *s, size_t n)
 {
     if (s->len == 0 || s->len > n)
@@ -110,10 +125,12 @@ static uint16_t settings_refusal(const struct settings *s, size_t n)
         return ICECOPPICE_WINDOW_COUNTS;
     if (s->covered_least > s->covered_most || s->covered_most > n)
         return ICECOPPICE_COVERED_COUNTS;
+    if (s->settle > 8)
+        return ICECOPPICE_SETTLE;
     return 0;
 }
 
-/* The first of the refusals 21 to 26 that applies, or 0. */
+/* The first of the refusals 21 to 27 that applies, or 0. */
 static uint16_t refusal(const struct settings *s, size_t n, size_t second_length, size_t third_length)
 {
     uint16_t refused = length_refusal(n, second_length, third_length);
@@ -141,7 +158,7 @@ struct icecoppice_answer search_refusal(const struct settings *s, const int32_t 
     return (struct icecoppice_answer){.code = 0};
 }
 
-/* The first of the refusals 21, 22, 34 and 23 to 26 that applies to the paging, or 0. */
+/* The first of the refusals 21, 22, 34 and 23 to 27 that applies to the paging, or 0. */
 static uint16_t early_page_refusal(const struct settings *s, size_t n, size_t highest_length, size_t given_length,
                                    size_t marks_length)
 {
@@ -195,6 +212,7 @@ static struct drawings draw_all(size_t n, unsigned len, unsigned h)
         for (size_t j = 0; j < n; j++)
             d->marks[j] = string >> (2 * (n - 1 - j)) & 3;
         d->counts = counts_of(d->marks, n);
+        d->gap = least_gap(d->marks, n);
         if (well_drawn(d->marks, n, len, h))
             all.length++;
     }
@@ -216,7 +234,7 @@ static const struct drawings *drawings_of(size_t n, unsigned len, unsigned h)
 static bool is_plan_for(const struct settings *s, const int32_t *lowest, const int32_t *highest,
                         const struct drawing *d, size_t n)
 {
-    return within_maximums(s, d->counts) && loads_exist(s->k, lowest, highest, d->marks, n);
+    return within_maximums(s, d->counts) && d->gap >= s->settle && loads_exist(s->k, lowest, highest, d->marks, n);
 }
 
 /* What occurs in the plans of a request; the thrift is the least covered count of those with the fewest windows. */

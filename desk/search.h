@@ -18,7 +18,7 @@
 
 struct settings {
     int32_t k;
-    uint16_t len, h;
+    uint16_t len, h, settle;
     uint16_t windows_least, windows_most;
     uint16_t covered_least, covered_most;
 };
@@ -52,7 +52,7 @@ struct icecoppice_verdict search_judge(const struct settings *s, const int32_t *
 bool search_is_plan(const struct settings *s, const int32_t *lowest, const int32_t *highest, const uint8_t *marks,
                     size_t n);
 
-/* The least number of windows over all marks that are legal for the loads, for any len and h. */
+/* The least number of windows over all marks that are legal for the loads, for any len and h; windows may touch. */
 unsigned search_least_windows(int32_t k, unsigned len, unsigned h, const int32_t *loads, size_t n);
 
 #endif

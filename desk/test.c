@@ -17,7 +17,10 @@
 #include <string.h>
 
 enum { SMALL_SLOTS = 6, SMALL_REQUESTS = 400000, JUDGED_PLANS = 400000 };
-enum { DAMAGED_REQUESTS = 15000, LARGE_REQUESTS = 2000, SETTLED_REQUESTS = 100 };
+enum { DAMAGED_REQUESTS = 15000, LARGE_REQUESTS = 3000, SETTLED_REQUESTS = 100 };
+
+/* How many large requests would have another answer with the settle count 0. */
+static unsigned long large_settle_tally;
 
 static size_t large_length(void)
 {
@@ -41,6 +44,8 @@ static void compare_some_plan(void)
         r.settings.windows_least = --r.settings.windows_most;
     if (one_in(8) && r.settings.covered_most > 0)
         r.settings.covered_least = --r.settings.covered_most;
+    if (one_in(8))
+        r.settings.settle++;
     damage_often(&r);
     compare_judge(&r);
 }
@@ -98,10 +103,19 @@ static bool lower_maximum(struct request *r)
     return true;
 }
 
+/* Asks the same with the settle count 0, and tallies whether that has another answer. */
+static void check_touching(struct request r, const struct request *left, const struct icecoppice_answer *a)
+{
+    r.settings.settle = 0;
+    struct icecoppice_answer loose = find_plan(&r);
+    large_settle_tally += !same_answer(&loose, a) || !same_buffers(&r, left);
+}
+
 static void check_large_request(void)
 {
-    struct request r = request_with_plan(large_length()), lowered = r;
-    find_plan(&r);
+    struct request given = request_with_plan(large_length()), r = given, lowered = given;
+    struct icecoppice_answer a = find_plan(&r);
+    check_touching(given, &r, &a);
     if (lower_maximum(&lowered) && compare_filter(&lowered).code != ICECOPPICE_NO)
         fail("planned, where a maximum is too low for the slots over; left was:", &lowered);
 }
@@ -173,6 +187,13 @@ static void check_shapes(struct request r)
         code_of_tighter(r);
 }
 
+/* Raises the settle count. */
+static void check_settles(struct request r)
+{
+    while (r.settings.settle++ < ICECOPPICE_MAX_SETTLE)
+        code_of_tighter(r);
+}
+
 static uint16_t code_with_maximums(struct request r, uint16_t windows_most, uint16_t covered_most)
 {
     r.settings.windows_most = windows_most;
@@ -215,6 +236,7 @@ static void check_settled_request(void)
     memcpy(given.marks, r.marks, sizeof given.marks);
     check_slots(&given, &r);
     check_shapes(given);
+    check_settles(given);
     check_least_counts(&given, &a);
     check_drawn_plan(&r, &a);
 }
@@ -239,7 +261,7 @@ static void check_all_over(void)
     for (uint16_t len = 1; len <= n; len++) {
         const uint16_t least = (n + len - 1) / len;
         struct request r = blank_request();
-        r.settings = (struct settings){0, len, 0, 0, n, 0, n};
+        r.settings = (struct settings){0, len, 0, 0, 0, n, 0, n};
         r.lowest_length = r.highest_length = r.marks_length = n;
         for (size_t j = MARGIN; j < MARGIN + n; j++)
             r.lowest[j] = r.highest[j] = 1;
@@ -255,16 +277,79 @@ static void check_all_over(void)
     }
 }
 
+/*
+ * 64 slots in runs of `len` slots over, with `gap` slots under from each to the next: a window for each run, where the
+ * settle count is not above the gap. With one more there is no plan, unless there is but one run.
+ */
+static void check_runs(uint16_t len, uint16_t gap)
+{
+    const uint16_t n = ICECOPPICE_SLOTS, runs = (n + len + gap - 1) / (len + gap);
+    struct request r = blank_request();
+    r.settings = (struct settings){0, len, 0, gap, 0, n, 0, n};
+    r.lowest_length = r.highest_length = r.marks_length = n;
+    for (size_t j = 0; j < n; j++)
+        r.lowest[MARGIN + j] = r.highest[MARGIN + j] = j % (len + gap) < len;
+    struct request wider = r;
+    wider.settings.settle++;
+    struct icecoppice_answer a = compare_filter(&r);
+    if (a.code != ICECOPPICE_YES || a.windows_least != runs)
+        fail("runs of slots over, as far from each other as the settle count says", &r);
+    uint16_t code = gap == ICECOPPICE_MAX_SETTLE ? ICECOPPICE_SETTLE : runs > 1 ? ICECOPPICE_NO : ICECOPPICE_YES;
+    if (compare_filter(&wider).code != code)
+        fail("runs of slots over, less far from each other than the settle count says", &wider);
+}
+
+static void check_all_runs(void)
+{
+    for (uint16_t len = 1; len <= ICECOPPICE_SLOTS; len++) {
+        for (uint16_t gap = 0; gap <= ICECOPPICE_MAX_SETTLE; gap++)
+            check_runs(len, gap);
+    }
+}
+
+/* Six slots, each under, over or open by a digit of the string, in base 3. */
+static struct request request_of_string(unsigned string)
+{
+    struct request r = blank_request();
+    r.lowest_length = r.highest_length = r.marks_length = SMALL_SLOTS;
+    for (size_t j = MARGIN; j < MARGIN + SMALL_SLOTS; j++, string /= 3) {
+        r.lowest[j] = string % 3 == 1;
+        r.highest[j] = string % 3 != 0;
+    }
+    return r;
+}
+
+static void compare_settle_counts(struct request r, uint16_t len, uint16_t h)
+{
+    for (uint16_t settle = 0; settle < SMALL_SLOTS; settle++) {
+        struct request copy = r;
+        copy.settings = (struct settings){0, len, h, settle, 0, SMALL_SLOTS, 0, SMALL_SLOTS};
+        compare_filter(&copy);
+    }
+}
+
+/* Every kind of six slots, with every accepted len and h, every settle count that can matter, and no lower maximum. */
+static void check_all_strings(void)
+{
+    enum { STRINGS = 3 * 3 * 3 * 3 * 3 * 3 };
+    for (unsigned string = 0; string < STRINGS; string++) {
+        for (uint16_t len = 1; len <= SMALL_SLOTS; len++) {
+            for (uint16_t h = 0; h == 0 || h + 1 < len; h++)
+                compare_settle_counts(request_of_string(string), len, h);
+        }
+    }
+}
+
 /* A length of 0 asks nothing of its pointer. */
 static void check_null(void)
 {
     struct request r = blank_request();
     int32_t load = 5;
     uint8_t mark = 7;
-    if (icecoppice_filter(0, 1, 0, 0, 0, 0, 0, NULL, 0, NULL, 0, NULL, 0).code != ICECOPPICE_FIRST_LENGTH ||
-        icecoppice_filter(0, 1, 0, 0, 0, 0, 0, &load, 1, NULL, 0, &mark, 1).code != ICECOPPICE_OTHER_LENGTH ||
-        icecoppice_judge(0, 1, 0, 0, 0, 0, 0, NULL, 0, NULL, 0).code != ICECOPPICE_FIRST_LENGTH ||
-        icecoppice_judge(0, 1, 0, 0, 0, 0, 0, &load, 1, NULL, 0).code != ICECOPPICE_OTHER_LENGTH ||
+    if (icecoppice_filter(0, 1, 0, 0, 0, 0, 0, 0, NULL, 0, NULL, 0, NULL, 0).code != ICECOPPICE_FIRST_LENGTH ||
+        icecoppice_filter(0, 1, 0, 0, 0, 0, 0, 0, &load, 1, NULL, 0, &mark, 1).code != ICECOPPICE_OTHER_LENGTH ||
+        icecoppice_judge(0, 1, 0, 0, 0, 0, 0, 0, NULL, 0, NULL, 0).code != ICECOPPICE_FIRST_LENGTH ||
+        icecoppice_judge(0, 1, 0, 0, 0, 0, 0, 0, &load, 1, NULL, 0).code != ICECOPPICE_OTHER_LENGTH ||
         load != 5 || mark != 7)
         fail("NULL with length 0", &r);
 }
@@ -289,11 +374,12 @@ static void check_long_slices(void)
     memset(low, FILL, sizeof low);
     memset(high, FILL, sizeof high);
     memset(marks, FILL, sizeof marks);
-    if (icecoppice_filter(0, 1, 0, 0, 1, 0, 1, low, LONG, high, LONG, marks, LONG).code != ICECOPPICE_FIRST_LENGTH ||
-        icecoppice_filter(0, 1, 0, 0, 1, 0, 1, low, 1, high, LONG, marks, 1).code != ICECOPPICE_OTHER_LENGTH ||
-        icecoppice_filter(0, 1, 0, 0, 1, 0, 1, low, 1, high, 1, marks, LONG).code != ICECOPPICE_OTHER_LENGTH ||
-        icecoppice_judge(0, 1, 0, 0, 1, 0, 1, low, LONG, marks, LONG).code != ICECOPPICE_FIRST_LENGTH ||
-        icecoppice_judge(0, 1, 0, 0, 1, 0, 1, low, 1, marks, LONG).code != ICECOPPICE_OTHER_LENGTH ||
+    if (icecoppice_filter(0, 1, 0, 0, 0, 1, 0, 1, low, LONG, high, LONG, marks, LONG).code !=
+            ICECOPPICE_FIRST_LENGTH ||
+        icecoppice_filter(0, 1, 0, 0, 0, 1, 0, 1, low, 1, high, LONG, marks, 1).code != ICECOPPICE_OTHER_LENGTH ||
+        icecoppice_filter(0, 1, 0, 0, 0, 1, 0, 1, low, 1, high, 1, marks, LONG).code != ICECOPPICE_OTHER_LENGTH ||
+        icecoppice_judge(0, 1, 0, 0, 0, 1, 0, 1, low, LONG, marks, LONG).code != ICECOPPICE_FIRST_LENGTH ||
+        icecoppice_judge(0, 1, 0, 0, 0, 1, 0, 1, low, 1, marks, LONG).code != ICECOPPICE_OTHER_LENGTH ||
         !holds_only(FILL, low, sizeof low) || !holds_only(FILL, high, sizeof high) ||
         !holds_only(FILL, marks, sizeof marks))
         fail("a length of 65537", &r);
@@ -305,6 +391,8 @@ int main(void)
     check_null();
     check_long_slices();
     check_all_over();
+    check_all_runs();
+    check_all_strings();
     for (unsigned i = 0; i < SMALL_REQUESTS; i++)
         compare_some_request();
     for (unsigned i = 0; i < JUDGED_PLANS; i++)
@@ -322,6 +410,7 @@ int main(void)
     check_writing();
     check_paging();
     print_tally();
+    print_kind("filter, large: other at settle 0", large_settle_tally);
     printf("%-32s %7d\n", "filter, large: each slot settled", SETTLED_REQUESTS);
     print_watch_tally();
     print_card_tally();

@@ -20,9 +20,11 @@ struct order {
 
 static unsigned long tally[ICECOPPICE_CROSSED + 1];
 
+/* With the settle count that form 1 holds. */
 static struct order some_order(size_t n)
 {
     struct order o = {.asked = some_request(n)};
+    o.asked.settings.settle = 1;
     for (size_t i = 0; i < sizeof o.buffer; i++)
         o.buffer[i] = below(256);
     return o;
@@ -32,8 +34,8 @@ static struct icecoppice_writing write_request(const struct settings *s, const i
                                                const int32_t *highest, size_t highest_length, uint8_t *buffer,
                                                size_t buffer_length)
 {
-    return icecoppice_write(s->k, s->len, s->h, s->windows_least, s->windows_most, s->covered_least, s->covered_most,
-                            lowest, lowest_length, highest, highest_length, buffer, buffer_length);
+    return icecoppice_write(s->k, s->len, s->h, s->settle, s->windows_least, s->windows_most, s->covered_least,
+                            s->covered_most, lowest, lowest_length, highest, highest_length, buffer, buffer_length);
 }
 
 static void print_writing(const char *whose, const struct icecoppice_writing *w)
@@ -74,7 +76,7 @@ static void check_rewritten(const uint8_t *file, size_t length, const struct req
     memcpy(noted + note_length, file, length);
     struct icecoppice_reading r =
         icecoppice_read(noted, note_length + length, lowest, ICECOPPICE_SLOTS, highest, ICECOPPICE_SLOTS);
-    struct settings s = {r.k, r.len, r.h, r.windows_least, r.windows_most, r.covered_least, r.covered_most};
+    struct settings s = {r.k, r.len, r.h, r.settle, r.windows_least, r.windows_most, r.covered_least, r.covered_most};
     struct icecoppice_writing w = write_request(&s, lowest, r.n, highest, r.n, again, sizeof again);
     if (w.code != ICECOPPICE_YES || w.length != length || memcmp(again, file, length) != 0)
         fail("what was read is not written as it stood", made);
@@ -101,6 +103,8 @@ static size_t some_room(size_t n)
 static void check_some_order(void)
 {
     struct order o = some_order(one_in(8) ? ICECOPPICE_SLOTS : 1 + below(ICECOPPICE_SLOTS));
+    if (one_in(4))
+        o.asked.settings.settle = below(ICECOPPICE_MAX_SETTLE + 1);
     damage_often(&o.asked);
     o.length = some_room(o.asked.lowest_length);
     check_order(&o);
@@ -122,7 +126,7 @@ static void check_lengths(void)
     enum { LONG = 65536 };
     static int32_t loads[LONG + 1];
     static uint8_t buffer[LONG];
-    const struct settings s = {0, 1, 0, 0, 1, 0, 1};
+    const struct settings s = {0, 1, 0, 1, 0, 1, 0, 1};
     if (write_request(&s, NULL, 0, NULL, 0, NULL, 0).code != ICECOPPICE_FIRST_LENGTH ||
         write_request(&s, loads, 1, loads, 1, NULL, 0).code != ICECOPPICE_BUFFER_LENGTH ||
         write_request(&s, loads, LONG + 1, loads, LONG + 1, buffer, LONG).code != ICECOPPICE_FIRST_LENGTH ||
@@ -143,5 +147,6 @@ void print_writing_tally(void)
 {
     print_kind("writer: stored", tally[ICECOPPICE_YES]);
     print_refusals("writer", tally, ICECOPPICE_FIRST_LENGTH, ICECOPPICE_CROSSED);
+    print_kind("writer: refused 28", tally[ICECOPPICE_STORED_SETTLE]);
     print_kind("writer: refused 18", tally[ICECOPPICE_BUFFER_LENGTH]);
 }

@@ -30,8 +30,12 @@ extern "C" {
 /* The most slots of a request whose plans are paged through. */
 #define ICECOPPICE_PAGED 12
 
-/* The most bytes of a form 1 file. */
-#define ICECOPPICE_FILE_BYTES 4096
+/* The most that the settle count can be. */
+#define ICECOPPICE_MAX_SETTLE 8
+
+/* The most bytes of a form 1 file, and the settle count of every request in one, for which it has no field. */
+#define ICECOPPICE_FILE_BYTES    4096
+#define ICECOPPICE_FORM_1_SETTLE 1
 
 /* The length of the file that the writer makes of a request with n slots, and the most that it can be. */
 #define ICECOPPICE_FILE_LENGTH(n) (16 + 8 * (n))
@@ -42,9 +46,10 @@ extern "C" {
 
 /*
  * A load greater than the threshold is over, any other is under. A window is a run of slots that begins and ends with
- * an over slot; every over slot lies in one, windows share no slot, and may touch. An under slot in a window is a
- * bridge. A plan says which slots the windows cover, by marks, one byte per slot; they are legal for loads if all this
- * holds and each window keeps the settings len and h.
+ * an over slot; every over slot lies in one, and windows share no slot. An under slot in a window is a bridge. A plan
+ * says which slots the windows cover, by marks, one byte per slot; they are legal for loads if all this holds, each
+ * window keeps the settings len and h, and between one window and the next lie at least as many uncovered slots as the
+ * settle count says. With the settle count 0 windows may touch.
  */
 #define ICECOPPICE_UNCOVERED 0
 #define ICECOPPICE_FIRST     1 /* the first slot of a window */
@@ -69,6 +74,8 @@ extern "C" {
 #define ICECOPPICE_BRIDGES         24 /* h > 0 and h + 1 >= len */
 #define ICECOPPICE_WINDOW_COUNTS   25 /* the least windows above the most, or the most above n */
 #define ICECOPPICE_COVERED_COUNTS  26 /* the least covered above the most, or the most above n */
+#define ICECOPPICE_SETTLE          27 /* the settle count is above 8 */
+#define ICECOPPICE_STORED_SETTLE   28 /* the writer: the settle count is not 1, the only one that form 1 holds */
 #define ICECOPPICE_CROSSED         31 /* the filter, the paging, the writer: a slot's lowest load above its highest */
 #define ICECOPPICE_UNREACHED       32 /* the watch: a state that no accepted start and steps lead to */
 #define ICECOPPICE_FULL            33 /* the watch: 1,000,000 slots already taken */
@@ -92,7 +99,7 @@ struct icecoppice_answer {
 
 /* What the paging answers. The slot is 0 where its comment does not apply. */
 struct icecoppice_page {
-    uint16_t code; /* 0: the next plan; 1: there is no further one; or a refusal: 21, 22, 34, 23 to 26, 31, then 35 */
+    uint16_t code; /* 0: the next plan; 1: there is no further one; or a refusal: 21, 22, 34, 23 to 27, 31, then 35 */
     size_t slot;   /* with code 31: the first slot whose lowest load is above its highest */
 };
 
@@ -109,6 +116,7 @@ struct icecoppice_reading {
     size_t n;      /* the number of slots */
     int32_t k;     /* from here on the settings, as the filter takes them; the reader does not check them */
     uint16_t len, h;
+    uint16_t settle; /* ICECOPPICE_FORM_1_SETTLE */
     uint16_t windows_least, windows_most;
     uint16_t covered_least, covered_most;
 };
@@ -121,7 +129,7 @@ struct icecoppice_found {
 
 /* What the writer answers. All fields but the code are 0 where their comment does not apply. */
 struct icecoppice_writing {
-    uint16_t code; /* 0, or a refusal: 21 to 26, 31, then 18 */
+    uint16_t code; /* 0, or a refusal: 21 to 27, 31, 28, then 18 */
     size_t slot;   /* with code 31: the first slot whose lowest load is above its highest */
     size_t length; /* code 0: how many bytes the file has */
 };
@@ -135,7 +143,7 @@ struct icecoppice_watch {
     uint16_t len;     /* the most slots of a window */
     uint16_t h;       /* the most bridges of a window */
     uint32_t taken;   /* how many slots were taken */
-    uint32_t windows; /* the least number of windows that covers their loads */
+    uint32_t windows; /* the least number of windows that covers their loads; they may touch */
     uint16_t room;    /* how many slots are left to the active window; 0 if none is active */
     uint16_t spare;   /* how many bridges are left to it; 0 if none is active */
 };
@@ -158,6 +166,7 @@ struct icecoppice_stepped {
  *   k                threshold; a load above it is over
  *   len              the most slots of a window
  *   h                the most bridges of a window
+ *   settle           the settle count: the least number of uncovered slots from one window to the next
  *   windows_least..  the range of the number of windows
  *   covered_least..  the range of the number of covered slots
  * No plan is held to the two minimums: they only raise windows_least and covered_least of the filter's answer.
@@ -170,7 +179,7 @@ struct icecoppice_stepped {
  * within both maximums: marks are compared slot by slot from slot 0, smaller mark first. On "no plan" and on a refusal
  * all three slices hold what they held before.
  */
-struct icecoppice_answer icecoppice_filter(int32_t k, uint16_t len, uint16_t h,
+struct icecoppice_answer icecoppice_filter(int32_t k, uint16_t len, uint16_t h, uint16_t settle,
                                            uint16_t windows_least, uint16_t windows_most,
                                            uint16_t covered_least, uint16_t covered_most,
                                            int32_t *lowest, size_t lowest_length,
@@ -187,7 +196,7 @@ struct icecoppice_answer icecoppice_filter(int32_t k, uint16_t len, uint16_t h,
  * and no other marks. The ranges are not narrowed. On "no further one" and on a refusal marks holds what it held
  * before.
  */
-struct icecoppice_page icecoppice_next_plan(int32_t k, uint16_t len, uint16_t h,
+struct icecoppice_page icecoppice_next_plan(int32_t k, uint16_t len, uint16_t h, uint16_t settle,
                                             uint16_t windows_least, uint16_t windows_most,
                                             uint16_t covered_least, uint16_t covered_most,
                                             const int32_t *lowest, size_t lowest_length,
@@ -196,7 +205,7 @@ struct icecoppice_page icecoppice_next_plan(int32_t k, uint16_t len, uint16_t h,
                                             uint8_t *marks, size_t marks_length);
 
 /* Judges a finished plan: yes exactly when the marks are legal for the loads and both counts keep their maximums. */
-struct icecoppice_verdict icecoppice_judge(int32_t k, uint16_t len, uint16_t h,
+struct icecoppice_verdict icecoppice_judge(int32_t k, uint16_t len, uint16_t h, uint16_t settle,
                                            uint16_t windows_least, uint16_t windows_most,
                                            uint16_t covered_least, uint16_t covered_most,
                                            const int32_t *loads, size_t loads_length,
@@ -216,9 +225,10 @@ struct icecoppice_found icecoppice_look_up(const uint8_t *file, size_t file_leng
 /*
  * Writes a request as a form 1 file without a note, into the first bytes of the buffer, whose later bytes hold what
  * they held before. It is stored as given, whether it has a plan or not; on a refusal the whole buffer holds what it
- * held before. What the filter would refuse is refused, so lowest and highest have one length.
+ * held before. What the filter would refuse is refused, so lowest and highest have one length, and so is a settle count
+ * other than ICECOPPICE_FORM_1_SETTLE.
  */
-struct icecoppice_writing icecoppice_write(int32_t k, uint16_t len, uint16_t h,
+struct icecoppice_writing icecoppice_write(int32_t k, uint16_t len, uint16_t h, uint16_t settle,
                                            uint16_t windows_least, uint16_t windows_most,
                                            uint16_t covered_least, uint16_t covered_most,
                                            const int32_t *lowest, size_t lowest_length,

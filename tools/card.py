@@ -17,6 +17,8 @@ A text has a section for each card:
     slot 1 3             lowest and highest load; a line for each slot, in their order
     note free words      the note before the records, as UTF-8
 
+Form 1 has no field for the settle count: every card is read with 1. A line `settle 1` may say so, and no other.
+
 Lines for other notes, and for cards that the reader refuses, where they overrule what would be written:
 
     distance 24          the distance back
@@ -42,6 +44,7 @@ PRINTER = Path(__file__).resolve().parent.parent / "target/bin/printer"
 TRAILER = struct.Struct("<HBBBBBBBiB2s")
 RECORD = struct.Struct("<ii")
 END = b"\x54\x43"
+SETTLE = 1
 
 Card = namedtuple("Card", "note slots distance n len h windows covered k form end")
 
@@ -50,6 +53,7 @@ BYTE, DISTANCE, SIZE, LOAD = (0, 2**8 - 1), (0, 2**16 - 1), (0, 2**20 - 1), (-2*
 NUMBERS = {
     "len": (1, BYTE), "h": (1, BYTE), "windows": (2, BYTE), "covered": (2, BYTE), "k": (1, LOAD), "slot": (2, LOAD),
     "distance": (1, DISTANCE), "n": (1, BYTE), "form": (1, BYTE), "fill": (1, SIZE), "cut": (1, SIZE),
+    "settle": (1, (0, 8)),
 }
 
 
@@ -123,6 +127,8 @@ def parsed(word, rest):
         return word, end
     if word == "fill":
         return "note", b"\xff" * numbers(word, rest)
+    if word == "settle" and numbers(word, rest) != SETTLE:
+        raise Wrong(f"{word} {rest}: a card of form 1 is read with {word} {SETTLE}, and has no field for another")
     if word in NUMBERS:
         return word, numbers(word, rest)
     raise Wrong(f"no line begins with {word}")

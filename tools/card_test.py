@@ -25,6 +25,8 @@ MISTAKES = [
     ("card a\nslot -2147483649 0", ": line 2: slot -2147483649 is not within -2147483648 to 2147483647"),
     ("card a\nk 0.5", ": line 2: k takes whole numbers, not 0.5"),
     ("\ufeffcard a\r\n\tk\t1 2", ": line 2: k takes one number, not 2"),
+    ("card a\nsettle 0", ": line 2: settle 0: a card of form 1 is read with settle 1, and has no field for another"),
+    ("card a\nsettle 9", ": line 2: settle 9 is not within 0 to 8"),
     ("card a\nbytes 0x", ": line 2: bytes takes bytes of two hexadecimal digits, not 0x"),
     ("card a\nslots 1 2", ": line 2: no line begins with slots"),
     ("card a/b", ": line 1: card takes the name of a file, not 'a/b'"),
@@ -150,6 +152,14 @@ class Test(unittest.TestCase):
         self.assertEqual(run("make", self.file, self.file.parent).stderr, "")
         made = self.file.parent / "north-gate.card"
         self.assertEqual(made.read_bytes(), (ROOT / "examples/case-a.card").read_bytes())
+
+    def test_settle_line(self):
+        """It alters no byte of a card."""
+        made = self.file.with_name("a.card")
+        for text in WHOLE, WHOLE + "settle 1\n":
+            self.file.write_text(text)
+            self.assertEqual(run("make", self.file, self.file.parent).stderr, "")
+            self.assertEqual(made.read_bytes(), bytes.fromhex("0000 00 01 00 0000 0000 00000000 01 5443"))
 
     def test_mistakes_in_a_text(self):
         for text, words in MISTAKES:

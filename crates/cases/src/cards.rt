@@ -88,6 +88,7 @@ fn write_settings(settings: Settings) {
 fn write_shape(shape: Shape) {
     write_count(b" len ", shape.len);
     write_count(b" h ", shape.h);
+    write_count(b" settle ", shape.settle);
 }
 
 fn write_range(word: &[u8], range: CountRange) {

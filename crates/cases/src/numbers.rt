@@ -12,7 +12,7 @@ use settings::Settings;
 
 // The most numbers that are read from a first field, and from any other. Of loads and marks at most PLACES are read,
 // one more than a plan may have slots.
-const FIRST: usize = 7;
+const FIRST: usize = 8;
 
 pub const MANY: usize = 130;
 
@@ -81,7 +81,7 @@ fn each_byte(all: &[i32], out: &mut [u8]) -> usize
 // Number i of the first field, counted from 0, or 0 where there is none. The next two functions give its magnitude, as
 // an unsigned number of 32 and of 16 bits.
 pub fn first(line: &[u8], i: usize) -> i32
-    requires { ⌜ i < 7 ⌝ }
+    requires { ⌜ i < 8 ⌝ }
 {
     let mut all = [0i32; FIRST];
     numbers(line, 0, DECIMAL, &mut all);
@@ -89,14 +89,14 @@ pub fn first(line: &[u8], i: usize) -> i32
 }
 
 pub fn long(line: &[u8], i: usize) -> u32
-    requires { ⌜ i < 7 ⌝ }
+    requires { ⌜ i < 8 ⌝ }
 {
     magnitude(first(line, i))
 }
 
 // 65,535 stands for any larger number.
 pub fn short(line: &[u8], i: usize) -> u16
-    requires { ⌜ i < 7 ⌝ }
+    requires { ⌜ i < 8 ⌝ }
 {
     let n = long(line, i);
     if n > 65535 {
@@ -109,8 +109,8 @@ pub fn settings(line: &[u8]) -> Settings {
     Settings {
         k: first(line, 0),
         shape: shape(line),
-        windows: range(line, 3),
-        covered: range(line, 5),
+        windows: range(line, 4),
+        covered: range(line, 6),
     }
 }
 
@@ -118,11 +118,12 @@ fn shape(line: &[u8]) -> Shape {
     Shape {
         len: short(line, 1),
         h: short(line, 2),
+        settle: short(line, 3),
     }
 }
 
 fn range(line: &[u8], i: usize) -> CountRange
-    requires { ⌜ i < 6 ⌝ }
+    requires { ⌜ i < 7 ⌝ }
 {
     CountRange {
         least: short(line, i),

@@ -34,7 +34,7 @@ use Rattle.published.proofs.Corners.{recount}
 use Rattle.published.proofs.Examples.{examples}
 use Rattle.published.proofs.Theorems.{theorems}
 use Rattle.published.specs.Published.{Sequence, size, sum, _⊆_, Obeys, Corners, sequencesOf}
-use Rattle.requests.proofs.Cases.{all-kept, thrift-rises}
+use Rattle.requests.proofs.Cases.{all-kept, thrift-rises, settling-fails}
 use Rattle.requests.proofs.Decided.{decided, keeps-iff}
 use Rattle.requests.proofs.Demand3.{demand3}
 use Rattle.requests.proofs.DrawnPlan.{completed-first, drawnPlan-first}
@@ -170,41 +170,61 @@ corners : (s : Settings) (X : List ℤ) (yc zc : ℕ) (S : List Sequence) →
     Corners X yc (s .shape .len) (s .shape .h) (s .k) zc S
 corners s X yc zc S = theorems .corners X yc _ _ _ zc S
 
-no-bridges : (shape : Shape) → shape .h ≡ 0 → shape ≡ shaped (shape .len) 0
-no-bridges shape e = λ i. record { len = shape .len; h = e i }
+touching : (shape : Shape) → shape .settle ≡ 0 → shape ≡ shaped (shape .len) (shape .h)
+touching shape e = λ i. record { len = shape .len; h = shape .h; settle = e i }
+
+no-bridges : (shape : Shape) → shape .settle ≡ 0 → shape .h ≡ 0 → shape ≡ shaped (shape .len) 0
+no-bridges shape e f = λ i. record { len = shape .len; h = f i; settle = e i }
+
+-- the rule itself
+same : {P : Type 0} → P ↔ P
+same = ((λ p. p), λ p. p)
 
 demand2 : Demand2
 demand2 =
     record {
-      weightedSpringy = λ r o f. (
-        delivers r (f .well) _
-            (λ X n yc S. corners (r .settings) X yc (r .settings .covered .most) S .weightedSpringy) o (f .kept),
-        delivers-covered r (f .well) _
-            (λ X n zc S. corners (r .settings) X (r .settings .windows .most) zc S .weightedSpringy) o (f .kept),
+      rule = λ r o f. (
+        delivers r (f .well) _ (λ X n yc S. same) o (f .kept),
+        delivers-covered r (f .well) _ (λ X n zc S. same) o (f .kept),
       );
-      weighted = λ r o f no-bridge. (
+      judge-rule = λ s X. judging s X _ (λ S. same);
+      weightedSpringy = λ r o f touch. (
         delivers r (f .well) _
-            (λ X n yc S. rw (no-bridges (r .settings .shape) no-bridge)
+            (λ X n yc S. rw (touching (r .settings .shape) touch)
+            (corners (r .settings) X yc (r .settings .covered .most) S .weightedSpringy)) o (f .kept),
+        delivers-covered r (f .well) _
+            (λ X n zc S. rw (touching (r .settings .shape) touch)
+            (corners (r .settings) X (r .settings .windows .most) zc S .weightedSpringy)) o (f .kept),
+      );
+      weighted = λ r o f touch no-bridge. (
+        delivers r (f .well) _
+            (λ X n yc S. rw (no-bridges (r .settings .shape) touch no-bridge)
             (corners (r .settings) X yc (r .settings .covered .most) S .weighted)) o (f .kept),
         delivers-covered r (f .well) _
-            (λ X n zc S. rw (no-bridges (r .settings .shape) no-bridge)
+            (λ X n zc S. rw (no-bridges (r .settings .shape) touch no-bridge)
             (corners (r .settings) X (r .settings .windows .most) zc S .weighted)) o (f .kept),
       );
       springy =
-          λ r o f most. delivers r (f .well) _
-          (λ X n yc S. rw (most, ← n) (corners (r .settings) X yc 0 S .springy)) o (f .kept);
+          λ r o f touch most. delivers r (f .well) _
+          (λ X n yc S. rw (touching (r .settings .shape) touch, most, ← n) (corners (r .settings) X yc 0 S .springy))
+          o (f .kept);
       focus =
-          λ r o f no-bridge most. delivers r (f .well) _
-          (λ X n yc S. rw (no-bridges (r .settings .shape) no-bridge, most, ← n)
+          λ r o f touch no-bridge most. delivers r (f .well) _
+          (λ X n yc S. rw (no-bridges (r .settings .shape) touch no-bridge, most, ← n)
           (corners (r .settings) X yc 0 S .focus)) o (f .kept);
-      judge = λ s X. judging s X _ (λ S. corners s X (s .windows .most) (s .covered .most) S .weightedSpringy);
+      judge =
+          λ s X touch. judging s X _
+          (λ S. rw (touching (s .shape) touch) (corners s X (s .windows .most) (s .covered .most) S .weightedSpringy));
       judge-weighted =
-          λ s X no-bridge. judging s X _
-          (λ S. rw (no-bridges (s .shape) no-bridge) (corners s X (s .windows .most) (s .covered .most) S .weighted));
-      judge-springy = λ s X most. judging s X _ (λ S. rw most (corners s X (s .windows .most) 0 S .springy));
+          λ s X touch no-bridge. judging s X _
+          (λ S. rw (no-bridges (s .shape) touch no-bridge)
+          (corners s X (s .windows .most) (s .covered .most) S .weighted));
+      judge-springy =
+          λ s X touch most. judging s X _
+          (λ S. rw (touching (s .shape) touch, most) (corners s X (s .windows .most) 0 S .springy));
       judge-focus =
-          λ s X no-bridge most. judging s X _
-          (λ S. rw (no-bridges (s .shape) no-bridge, most) (corners s X (s .windows .most) 0 S .focus));
+          λ s X touch no-bridge most. judging s X _
+          (λ S. rw (no-bridges (s .shape) touch no-bridge, most) (corners s X (s .windows .most) 0 S .focus));
       plans = plan-iff-yes;
       watch = watch-least;
     }
@@ -221,10 +241,9 @@ established =
       plans-at-ends = λ r w ms. plan-iff-ends r (formed-iff .0 w) ms;
       pages = enumerates;
       first-page = λ r o f. first-page r (f .well) o (f .kept);
-      thrift =
-          λ r o f. delivers-thrift r (f .well) _
-          (λ X yc zc S. corners (r .settings) X yc zc S .weightedSpringy) o (f .kept);
+      thrift = λ r o f. delivers-thrift r (f .well) _ (λ X yc zc S. same) o (f .kept);
       thrift-rises = thrift-rises;
+      settling-fails = settling-fails;
       published = theorems;
       examples = examples;
       watch = count-is-least;

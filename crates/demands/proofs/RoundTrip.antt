@@ -13,7 +13,7 @@ use Rattle.settings.specs.declared.Settings.{Settings}
 use Rattle.form1.proofs.OnlyEncoded.{only-encoded}
 use Rattle.form1.proofs.ReadBack.{read-back, accepted→fit}
 use Rattle.form1.proofs.Tabulate.{length-tabulate, tabulate-at, tabulate-is}
-use Rattle.form1.specs.Form1.{slots, rangeOf, note, tabulate}
+use Rattle.form1.specs.Form1.{slots, rangeOf, note, tabulate, storedSettle, settings as Form1·settings}
 use Rattle.form1.specs.Layout.{encode, Bytes, ReadAs}
 use Rattle.requests.proofs.ChosenIn.{paired-length, paired-at}
 use Rattle.requests.proofs.Formed.{passes→accepted}
@@ -76,6 +76,10 @@ module _ (file : List ℕ) (s : Settings) (los his lent-los lent-his : List ℤ)
         let high = ap (λ l. at l i) (sym highs) ∙ tabulate-at (length los) i _ (pos 0) bound in
         range-at los his i bound wide ∙ λ j. range (low j) (high j))
 
+    read-settle : s .shape .settle ≡ storedSettle
+    unfolding Form1·settings
+    read-settle = sym (ap (λ (s : Settings). s .shape .settle) (taken file lent-los lent-his answered .2))
+
     -- a file that is taken as a request is a note with the request's own file after it
     encoded : Bytes file → file ≡ note file ++ fileOf s los his
     unfolding encode
@@ -86,11 +90,11 @@ module _ (file : List ℕ) (s : Settings) (los his lent-los lent-his : List ℤ)
 
 pub reads-back : ReadsBack
 reads-back s los his buffer size k fits e lent-los lent-his low high =
-    let (checked, _, is) = stored→file s los his buffer e in
+    let (checked, settle, _, is) = stored→file s los his buffer e in
     let (pass, wide, _, _) = passes→accepted s los his checked in
     let count : length (paired los his) ≡ length los = paired-length los his (sym wide) in
     let long : length (fileOf s los his) ≤ 4096 = omega (arith, file-length s los his wide, pass .slots) in
-    let fit = accepted→fit (length los) s (omega (arith, pass .slots)) k pass in
+    let fit = accepted→fit (length los) s (omega (arith, pass .slots)) k settle pass in
     rw is
     (read→taken (fileOf s los his) s los his lent-los lent-his wide
     (read-back [] (paired los his) s (omega (arith, pass .slots)) (omega (arith, pass .slots)) long fits fit)
@@ -100,12 +104,13 @@ pub writes-back : WritesBack
 writes-back file s los his lent-los lent-his bytes t bare ms buffer marked formed room =
     let is : file ≡ fileOf s los his
     = encoded file s los his lent-los lent-his t bytes ∙ ap (λ front. front ++ fileOf s los his) bare in
-    let answer = stores-accepted s los his buffer ms marked .1 (formed, rw (← is) room) in
+    let settle = read-settle file s los his lent-los lent-his t in
+    let answer = stores-accepted s los his buffer ms marked .1 (formed, settle, rw (← is) room) in
     rw is (λ i. record { answer = answer i; buffer = stored→buffer s los his buffer answer i })
 
 pub shortest : Shortest
 shortest s los his buffer size e file lent-los lent-his bytes t =
-    let (_, file-size, is) = stored→file s los his buffer e in
+    let (_, _, file-size, is) = stored→file s los his buffer e in
     let whole = encoded file s los his lent-los lent-his t bytes in
     let long : length file ≡ length (note file) + length (fileOf s los his)
     = ap length whole ∙ length-append (note file) (fileOf s los his) in (

@@ -32,9 +32,9 @@ use Rattle.settings.specs.declared.Settings.{Settings}
 use Rattle.judge.specs.Judgment.{says, allowed, judgeRefusal, judgment}
 use Rattle.chooser.specs.Choice.{Chosen, Chooses}
 use Rattle.published.specs.Published.{Sequence, size, sum, _⊆_, Focus, SpringyFocus, WeightedFocus}
-use Rattle.published.specs.Published.{WeightedSpringyFocus, sequencesOf, Theorems}
+use Rattle.published.specs.Published.{WeightedSpringyFocus, Obeys, sequencesOf, Theorems}
 use Rattle.published.specs.Examples.{Examples}
-use Rattle.requests.specs.Cases.{cases, Kept, ThriftRises}
+use Rattle.requests.specs.Cases.{cases, Kept, ThriftRises, SettlingFails}
 use Rattle.requests.specs.Demand3.{Demand3}
 use Rattle.requests.specs.Promise.{Outcome, Says, SaysPlanned, SaysNoPlan, Held, Unaltered, YesFor, Keeps}
 use Rattle.requests.specs.Request.{Request, slots, paired, ranges, at, filterRefusal, WellFormed, PlanOf}
@@ -109,9 +109,9 @@ use Rattle.refusals.proofs.Refusal.number as Number
 use Rattle.refusals.proofs.Refusal.slot as RefusedSlot
 
 -- Demand 1: every input gets a result or one numbered refusal (from the chooser, an empty part), and what is lent is
--- unaltered after a refusal, a "no plan" or the last page. That every input may be given follows from `Contracts`. The judge, the
--- chooser, the watch, the look-up and the view take values and shared slices, and write nothing; the listing refuses
--- nothing.
+-- unaltered after a refusal, a "no plan" or the last page. That every input may be given follows from `Contracts`. The
+-- judge, the chooser, the watch, the look-up and the view take values and shared slices, and write nothing; the listing
+-- refuses nothing.
 pub record Demand1 : Type 0 where
   -- the filter refuses with the first refusal that applies, and in no other situation
   pub filter : (r : Request) (o : Outcome) → Keeps r o → (f : Refusal) →
@@ -245,35 +245,47 @@ pub record Judges (s : Settings) (X : List ℤ) (D : List Sequence → Type 0) :
       × (sequencesOf 0 ms ⊆ S) × (S ⊆ sequencesOf 0 ms)
 
 pub record Demand2 : Type 0 where
-  pub weightedSpringy : (r : Request) (o : Outcome) → Filtered r o → let s = r .settings in
+  -- the filter and the judge, measured by the rule on windows, at every settle count
+  pub rule : (r : Request) (o : Outcome) → Filtered r o → let s = r .settings in
+      Delivers r (λ X yc S. Obeys (s .k) (s .shape) yc (s .covered .most) X S) o
+      × DeliversCovered r (λ X zc S. Obeys (s .k) (s .shape) (s .windows .most) zc X S) o
+  pub judge-rule : (s : Settings) (X : List ℤ) →
+      Judges s X (Obeys (s .k) (s .shape) (s .windows .most) (s .covered .most) X)
+  -- the filter at settle 0, measured by the published definitions
+  pub weightedSpringy : (r : Request) (o : Outcome) → Filtered r o → r .settings .shape .settle ≡ 0 →
+      let s = r .settings in
       Delivers r (λ X yc S. WeightedSpringyFocus X yc (s .shape .len) (s .shape .h) (s .k) (s .covered .most) S) o
       × DeliversCovered r
       (λ X zc S. WeightedSpringyFocus X (s .windows .most) (s .shape .len) (s .shape .h) (s .k) zc S) o
   -- with h = 0
-  pub weighted : (r : Request) (o : Outcome) → Filtered r o → r .settings .shape .h ≡ 0 → let s = r .settings in
+  pub weighted : (r : Request) (o : Outcome) → Filtered r o → r .settings .shape .settle ≡ 0 →
+      r .settings .shape .h ≡ 0 →
+      let s = r .settings in
       Delivers r (λ X yc S. WeightedFocus X yc (s .shape .len) (s .k) (s .covered .most) S) o
       × DeliversCovered r (λ X zc S. WeightedFocus X (s .windows .most) (s .shape .len) (s .k) zc S) o
   -- with a covered maximum of n
-  pub springy : (r : Request) (o : Outcome) → Filtered r o → r .settings .covered .most ≡ slots r →
+  pub springy : (r : Request) (o : Outcome) → Filtered r o → r .settings .shape .settle ≡ 0 →
+      r .settings .covered .most ≡ slots r →
       let s = r .settings in
       Delivers r (λ X yc S. SpringyFocus X yc (s .shape .len) (s .shape .h) (s .k) S) o
   -- with both
-  pub focus : (r : Request) (o : Outcome) → Filtered r o → r .settings .shape .h ≡ 0 →
-      r .settings .covered .most ≡ slots r →
+  pub focus : (r : Request) (o : Outcome) → Filtered r o → r .settings .shape .settle ≡ 0 →
+      r .settings .shape .h ≡ 0 → r .settings .covered .most ≡ slots r →
       let s = r .settings in Delivers r (λ X yc S. Focus X yc (s .shape .len) (s .k) S) o
-  -- the judge of finished plans, in the same order
-  pub judge : (s : Settings) (X : List ℤ) →
+  -- the judge of finished plans at settle 0, in the same order
+  pub judge : (s : Settings) (X : List ℤ) → s .shape .settle ≡ 0 →
       Judges s X (WeightedSpringyFocus X (s .windows .most) (s .shape .len) (s .shape .h) (s .k) (s .covered .most))
-  pub judge-weighted : (s : Settings) (X : List ℤ) → s .shape .h ≡ 0 →
+  pub judge-weighted : (s : Settings) (X : List ℤ) → s .shape .settle ≡ 0 → s .shape .h ≡ 0 →
       Judges s X (WeightedFocus X (s .windows .most) (s .shape .len) (s .k) (s .covered .most))
-  pub judge-springy : (s : Settings) (X : List ℤ) → s .covered .most ≡ length X →
+  pub judge-springy : (s : Settings) (X : List ℤ) → s .shape .settle ≡ 0 → s .covered .most ≡ length X →
       Judges s X (SpringyFocus X (s .windows .most) (s .shape .len) (s .shape .h) (s .k))
-  pub judge-focus : (s : Settings) (X : List ℤ) → s .shape .h ≡ 0 → s .covered .most ≡ length X →
+  pub judge-focus : (s : Settings) (X : List ℤ) → s .shape .settle ≡ 0 → s .shape .h ≡ 0 → s .covered .most ≡ length X →
       Judges s X (Focus X (s .windows .most) (s .shape .len) (s .k))
   -- filter and judge agree: the plans of a request are the marks to which the judge says yes with their counts, for
   -- some loads in its ranges
   pub plans : (r : Request) → WellFormed r → (ms : List ℕ) → PlanOf r ms ↔ YesFor (r .settings) (ranges r) ms
-  -- the watch counts the least number of windows, without a maximum, for the loads that lead to its state
+  -- the watch, which has no settle count, counts the least number of windows, without a maximum, for the loads that
+  -- lead to its state
   pub watch : (k : ℤ) (len h : ℕ) (X : List ℤ) (w : Watch) → LeadsTo k len h X w →
       LeastNumber (λ yc. (S : List Sequence) × SpringyFocus X yc len h k S) (w .windows)
 
@@ -297,14 +309,16 @@ pub record Established : Type 0 where
   -- marks are a plan exactly when the judge allows them for the ends of the ranges on their sides
   pub plans-at-ends : (r : Request) → WellFormed r → (ms : List ℕ) →
       PlanOf r ms ↔ (allowed (r .settings) (endsFor (ranges r) ms) ms ≡ true)
-  -- the pages of a request are its plans, each once, and no other string, and they come to an end; the first is what the
-  -- filter draws
+  -- the pages of a request are its plans, each once, and no other string, and they come to an end; the first is what
+  -- the filter draws
   pub pages : Enumerates
   pub first-page : (r : Request) (o : Outcome) → Filtered r o → (n : PlanCounts) → Says o n → NextPlan r [] (o .marks)
-  -- the thrift handed back, measured by WeightedSpringyFOCUS; that loosening may raise it
-  pub thrift : (r : Request) (o : Outcome) → Filtered r o → (n : PlanCounts) → Says o n → let s = r .settings in
-      TrueThrift r (λ X yc zc S. WeightedSpringyFocus X yc (s .shape .len) (s .shape .h) (s .k) zc S) (n .thrift)
+  -- the thrift handed back, measured by the rule on windows; that loosening may raise it
+  pub thrift : (r : Request) (o : Outcome) → Filtered r o → (n : PlanCounts) → Says o n →
+      TrueThrift r (λ X yc zc S. Obeys (r .settings .k) (r .settings .shape) yc zc X S) (n .thrift)
   pub thrift-rises : ThriftRises
+  -- that settling may cost the plan beyond the settle counts of demand 3
+  pub settling-fails : SettlingFails
   -- the published definitions, the rule on windows, and legal marks, for loads and for ranges; examples that the
   -- papers work out
   pub published : Theorems
@@ -316,7 +330,8 @@ pub record Established : Type 0 where
   pub read-back : ReadBack
   pub only-encoded : OnlyEncoded
   pub look-ups : LookUpAgrees
-  -- the writer stores what the filter does not refuse; writer and reader undo each other; no file is shorter
+  -- the writer stores what the filter does not refuse, at settle 1; writer and reader undo each other; no file is
+  -- shorter
   pub stores-accepted : StoresAccepted
   pub reads-back : ReadsBack
   pub writes-back : WritesBack

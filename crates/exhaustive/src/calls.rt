@@ -1,8 +1,8 @@
 // Calls at and around the limits of document 01's table of refusals, by number. Each digit of a number chooses one part
 // of the call. From the lowest on there are 6 choices of len, 5 of h, 6 of the slots, 3 of the length of the marks, 16
-// of the window range, 16 of the covered range, 3 of the length of the highest loads, 4 of the crossed slots, and 5 of
-// the given plan. The first two digits, with 64 slots, make the starts of a watch; the judge has no highest loads and
-// no crossed slots; the writer has a buffer in place of the marks; only paging has a given plan.
+// of the window range, 16 of the covered range, 3 of the length of the highest loads, 4 of the crossed slots, 8 of the
+// settle count, and 5 of the given plan. The first two digits, with 64 slots, make the starts of a watch; the judge has
+// no highest loads and no crossed slots; the writer has a buffer in place of the marks; only paging has a given plan.
 ghost use Prim.Native.Nat.{_+_, _≤_, _<_};
 use crate::numbers::saturating_sub;
 use rule::Shape;
@@ -11,12 +11,15 @@ use settings::Settings;
 
 pub const STARTS: u32 = 30;
 
+// With the first settle count: calls of the judge; of the filter, and of the writer.
 pub const JUDGE_CALLS: u32 = 138240;
 
-// Calls of the filter, and of the writer.
 pub const FILTER_CALLS: u32 = 1658880;
 
-pub const PAGING_CALLS: u32 = 8294400;
+// With every settle count: calls of each of these; of paging.
+pub const CALLS: u32 = 13271040;
+
+pub const PAGING_CALLS: u32 = 66355200;
 
 // The length of the first slice.
 pub fn slots(call: u32) -> u16
@@ -55,7 +58,7 @@ pub fn highest_length(call: u32) -> u16
 pub fn given_length(call: u32) -> u16
     ensures { λ r. ⌜ r ≤ 66 ⌝ }
 {
-    match call / FILTER_CALLS {
+    match call / CALLS {
         3 => slots(call),
         4 => 0,
         digit => other_length(slots(call), digit),
@@ -90,6 +93,21 @@ pub fn shape(call: u32) -> Shape {
     Shape {
         len,
         h: around(saturating_sub(len, 2), call / 6 % 5),
+        settle: settle(call),
+    }
+}
+
+// The first is the one that the writer stores.
+fn settle(call: u32) -> u16 {
+    match call / FILTER_CALLS % 8 {
+        0 => 1,
+        1 => 0,
+        2 => 2,
+        3 => 8,
+        4 => 9,
+        5 => 10,
+        6 => 257,
+        _ => 65535,
     }
 }
 
@@ -150,5 +168,5 @@ pub fn given(call: u32) -> [u8; 67] {
 }
 
 pub fn is_plan_given(call: u32) -> bool {
-    call / FILTER_CALLS != 3
+    call / CALLS != 3
 }

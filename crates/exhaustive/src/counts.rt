@@ -1,8 +1,8 @@
 // Counts of comparisons, and the parts of a line of output.
 use libc::STDOUT_FILENO;
 
-// How many were compared, how many of these were planned, judged yes, have a window or have a next plan, and how many
-// differ.
+// How many were compared, how many of these were planned, judged yes, have a window, have a next plan or break a rule
+// that need not hold, and how many differ.
 pub struct Tally {
     pub compared: u32,
     pub met: u32,

@@ -18,10 +18,10 @@ use crate::search::search;
 // A bit for each of 8 slots.
 const ALL: usize = 255;
 
-pub fn compare(tally: Tally, n: u16, number: usize) -> Tally
+pub fn compare(tally: Tally, n: u16, settle: u16, number: usize) -> Tally
     requires { ⌜ n ≤ 8 ⌝ }
 {
-    let request = sample_request(n, 2, number);
+    let request = sample_request(n, settle, 2, number);
     let given = ask(request, n);
     let lowest = request.lowest;
     let highest = request.highest;

@@ -27,10 +27,10 @@ pub fn step(n: u16) -> usize
 }
 
 // Tries every string of bytes as marks for the loads of a request, each of which is over or under.
-pub fn compare(before: Tally, n: u16, number: usize) -> Tally
+pub fn compare(before: Tally, n: u16, settle: u16, number: usize) -> Tally
     requires { ⌜ n ≤ 8 ⌝ }
 {
-    let request = sample_request(n, 1, number);
+    let request = sample_request(n, settle, 1, number);
     let loads = request.lowest;
     let step = step(n);
     let mut tally = before;

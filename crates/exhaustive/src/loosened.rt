@@ -17,10 +17,10 @@ use rule::Shape;
 use settings::CountRange;
 use settings::Settings;
 
-pub fn compare(tally: Tally, n: u16, number: usize) -> Tally
+pub fn compare(tally: Tally, n: u16, settle: u16, number: usize) -> Tally
     requires { ⌜ n ≤ 8 ⌝ }
 {
-    let request = sample_request(n, 2, number);
+    let request = sample_request(n, settle, 2, number);
     let tighter = ask(request, n);
     let looser = ask(loosened(request, n, next(number)), n);
     tally.with(tighter.outcome.code == PLANNED, agrees(tighter, looser))
@@ -56,7 +56,8 @@ fn at_most(loads: [i32; 8], others: [i32; 8]) -> bool {
     true
 }
 
-// A looser request: no range narrower, len, h and maximums no smaller, minimums no larger; k and n stay the same.
+// A looser request: no range narrower, len, h and maximums no smaller, the settle count and minimums no larger; k and n
+// stay the same.
 fn loosened(request: Request, n: u16, seed: usize) -> Request {
     let lowest = request.lowest;
     let highest = request.highest;
@@ -103,6 +104,7 @@ fn loosened_shape(shape: Shape, n: u16, seed: usize) -> Shape {
     Shape {
         len: larger(shape.len, len),
         h: larger(shape.h, h),
+        settle: pick(next(seed / 2), shape.settle),
     }
 }
 

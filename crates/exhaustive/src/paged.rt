@@ -29,10 +29,10 @@ struct Answer {
 
 // Goes through the strings of n bytes in the order of document 02's T-03. The next plan after the empty slice, and
 // after each string that is a plan, is the next string that is one, if there is any. Every other string is refused.
-pub fn compare(before: Tally, n: u16, number: usize) -> Tally
+pub fn compare(before: Tally, n: u16, settle: u16, number: usize) -> Tally
     requires { ⌜ n ≤ 8 ⌝ }
 {
-    let request = sample_request(n, 2, number);
+    let request = sample_request(n, settle, 2, number);
     let slots = n as usize;
     let end = strings(n);
     let step = step(n);

@@ -17,6 +17,7 @@ use crate::counts::add;
 use crate::counts::end_line;
 use crate::counts::write;
 use crate::counts::write_count;
+use crate::table::judge_refusal;
 use crate::table::paging_refusal;
 use crate::table::refusal;
 use crate::table::writer_refusal;
@@ -47,11 +48,11 @@ struct Refused {
 }
 
 // The numbers whose counts are printed, in the order of the table; 0 stands for no refusal.
-const NUMBERS: [u32; 11] = [21, 22, 34, 23, 24, 25, 26, 31, 18, 35, 0];
+const NUMBERS: [u32; 13] = [21, 22, 34, 23, 24, 25, 26, 27, 31, 28, 18, 35, 0];
 
-// Compares the calls whose number is below end, prints a line, and gives whether all agree.
-pub fn run(operation: Operation, end: u32) -> bool {
-    let step = step(operation);
+// Compares every call whose number is below `every`, and from there on to below end samples; prints a line, and gives
+// whether all agree.
+pub fn run(operation: Operation, every: u32, end: u32) -> bool {
     let mut met: [u32; 36] = [0; 36];
     let mut calls = 0;
     let mut differ = 0;
@@ -62,7 +63,7 @@ pub fn run(operation: Operation, end: u32) -> bool {
         met[number as usize] = add(met[number as usize], true);
         calls = add(calls, true);
         differ = add(differ, !agrees(operation, call, number));
-        i += step;
+        i += step(i, every);
     }
     write_operation(operation);
     write_count(calls);
@@ -71,14 +72,14 @@ pub fn run(operation: Operation, end: u32) -> bool {
     differ == 0
 }
 
-// The calls of paging are only sampled. The step has no factor in common with how many numbers there are.
-fn step(operation: Operation) -> usize
-    ensures { λ r. ⌜ (0 < r) × (r ≤ 7) ⌝ }
+// The step of the samples has no factor in common with how many numbers there are.
+fn step(i: usize, every: u32) -> usize
+    ensures { λ r. ⌜ (0 < r) × (r ≤ 13) ⌝ }
 {
-    match operation {
-        Operation::Paging => 7,
-        _ => 1,
+    if i < every as usize {
+        return 1;
     }
+    13
 }
 
 fn expected(operation: Operation, call: u32) -> u16
@@ -87,6 +88,7 @@ fn expected(operation: Operation, call: u32) -> u16
     match operation {
         Operation::Paging => paging_refusal(call),
         Operation::Writer => writer_refusal(call),
+        Operation::Judge => judge_refusal(call),
         _ => refusal(call),
     }
 }
@@ -289,7 +291,7 @@ fn write_operation(operation: Operation) {
 fn write_met(met: [u32; 36]) {
     write(b" met");
     let mut i = 0;
-    while i < 11 {
+    while i < 13 {
         write_number(NUMBERS[i], met);
         i += 1;
     }

@@ -20,9 +20,9 @@ pub struct Request {
     pub highest: [i32; 8],
 }
 
-// The request of n slots with this number. The number's digits are, from the lowest on: len, h, the window maximum and
-// the covered maximum, each up to n, and the class string, whose highest digit is most.
-pub fn sample_request(n: u16, most: u16, number: usize) -> Request {
+// The request of n slots with this settle count and this number. The number's digits are, from the lowest on: len, h,
+// the window maximum and the covered maximum, each up to n, and the class string, whose highest digit is most.
+pub fn sample_request(n: u16, settle: u16, most: u16, number: usize) -> Request {
     let seed = next(next(number));
     let counts = higher_digits(higher_digits(number, n), n);
     let classes = higher_digits(higher_digits(counts, n), n);
@@ -32,7 +32,7 @@ pub fn sample_request(n: u16, most: u16, number: usize) -> Request {
     Request {
         settings: Settings {
             k: load(threshold, AT),
-            shape: shape(n, number),
+            shape: shape(n, settle, number),
             windows: up_to(digit(counts, n), next(seed / 2)),
             covered: up_to(digit(higher_digits(counts, n), n), next(seed / 3)),
         },
@@ -42,13 +42,14 @@ pub fn sample_request(n: u16, most: u16, number: usize) -> Request {
     }
 }
 
-// len and h, which are the two lowest digits of a number.
-fn shape(n: u16, number: usize) -> Shape
+// The settle count with len and h, which are the two lowest digits of a number.
+fn shape(n: u16, settle: u16, number: usize) -> Shape
     ensures { λ r. ⌜ r .h ≤ n ⌝ }
 {
     Shape {
         len: digit(number, n),
         h: digit(higher_digits(number, n), n),
+        settle,
     }
 }
 
@@ -56,7 +57,7 @@ fn shape(n: u16, number: usize) -> Shape
 pub fn is_accepted(n: u16, number: usize) -> bool
     requires { ⌜ n ≤ 8 ⌝ }
 {
-    let shape = shape(n, number);
+    let shape = shape(n, 0, number);
     (shape.len > 0) & ((shape.h == 0) | (shape.h + 1 < shape.len))
 }
 

@@ -1,5 +1,5 @@
-// Document 01's rule, read window by window, and a search over all strings of marks. No function of the planner is
-// used here.
+// Document 01's rule, with document 02's T-06, read window by window, and a search over all strings of marks. No
+// function of the planner is used here.
 ghost use Prim.Native.Nat.{_+_, _≤_, _<_};
 use crate::numbers::smaller;
 use rule::Shape;
@@ -178,7 +178,7 @@ fn is_placed(shape: Shape, n: usize, marks: [u8; 8], i: usize) -> bool
 {
     let mark = marks[i];
     if mark == 1 {
-        return is_window(shape, marks, i, end_of(n, marks, i));
+        return is_window(shape, n, marks, i, end_of(n, marks, i));
     }
     if i == 0 {
         return mark == 0;
@@ -201,14 +201,42 @@ fn end_of(n: usize, marks: [u8; 8], first: usize) -> usize
     end
 }
 
-// Whether the window from first to below end keeps the rule: its last slot is no bridge, and it has at most len slots
-// and h bridges.
-fn is_window(shape: Shape, marks: [u8; 8], first: usize, end: usize) -> bool
-    requires { ⌜ (first < end) × (end ≤ 8) ⌝ }
+// Whether the window from first to below end keeps the rule: its last slot is no bridge, it has at most len slots and h
+// bridges, and the next window is far enough.
+fn is_window(shape: Shape, n: usize, marks: [u8; 8], first: usize, end: usize) -> bool
+    requires { ⌜ (first < end) × (end ≤ n) × (n ≤ 8) ⌝ }
 {
-    (marks[end - 1] != 3)
-        & (end - first <= shape.len as usize)
-        & (occurrences(marks, first, end, 3) <= shape.h)
+    if (marks[end - 1] == 3) | (end - first > shape.len as usize) {
+        return false;
+    }
+    if occurrences(marks, first, end, 3) > shape.h {
+        return false;
+    }
+    is_far(shape.settle, n, marks, end)
+}
+
+// Whether between a window, which ends before `end`, and the next one, if there is one, at least this many slots are
+// uncovered.
+fn is_far(settle: u16, n: usize, marks: [u8; 8], end: usize) -> bool
+    requires { ⌜ (end ≤ n) × (n ≤ 8) ⌝ }
+{
+    let next = next_window(n, marks, end);
+    (next == n) | (occurrences(marks, end, next, 0) >= settle)
+}
+
+// The first slot from `from` on that begins a window, or n.
+fn next_window(n: usize, marks: [u8; 8], from: usize) -> usize
+    requires { ⌜ (from ≤ n) × (n ≤ 8) ⌝ }
+    ensures { λ r. ⌜ (from ≤ r) × (r ≤ n) ⌝ }
+{
+    let mut next = from;
+    while next < n {
+        if marks[next] == 1 {
+            return next;
+        }
+        next += 1;
+    }
+    next
 }
 
 pub fn windows(n: usize, marks: [u8; 8]) -> u16

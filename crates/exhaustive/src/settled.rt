@@ -1,4 +1,4 @@
-// Tests demand 3 on an open slot that is settled, with the window range 0 to n.
+// Tests demand 3 on an open slot that is settled, with the window range 0 to n: at most one more window is needed.
 ghost use Prim.Native.Nat.{_≤_, _<_};
 use crate::answers::Outcome;
 use crate::answers::PLANNED;
@@ -10,46 +10,52 @@ use crate::loads::load;
 use crate::samples::Request;
 use crate::samples::sample_request;
 
-// Tries every settling of every open slot, for the requests whose window maximum is n. Their window minimum becomes 0.
-pub fn compare(tally: Tally, n: u16, number: usize) -> Tally
+// Whether that has to hold (document 02, T-06). Where it does not, it is only counted how often it fails.
+pub fn holds(settle: u16, over: bool) -> bool {
+    if over {
+        return settle == 0;
+    }
+    settle <= 1
+}
+
+// Settles every open slot, under or over, of the requests whose window maximum is n. Their window minimum becomes 0.
+pub fn compare(tally: Tally, n: u16, settle: u16, over: bool, number: usize) -> Tally
     requires { ⌜ n ≤ 8 ⌝ }
 {
-    let mut request = sample_request(n, 2, number);
+    let mut request = sample_request(n, settle, 2, number);
     if request.settings.windows.most != n {
         return tally;
     }
     request.settings.windows.least = 0;
-    settle_each(tally, request, n)
+    settle_each(tally, request, n, over)
 }
 
-// Each open slot is settled under, and then over.
-fn settle_each(before: Tally, request: Request, n: u16) -> Tally
+fn settle_each(before: Tally, request: Request, n: u16, over: bool) -> Tally
     requires { ⌜ n ≤ 8 ⌝ }
 {
     let given = ask(request, n);
     let outcome = given.outcome;
-    let settlings = 2 * n;
     let mut tally = before;
     let mut i = 0;
-    while i < settlings {
-        tally = settle(tally, request, n, outcome, i as usize);
+    while i < n {
+        tally = settle(tally, request, n, outcome, i as usize, over);
         i += 1;
     }
     tally
 }
 
-fn settle(tally: Tally, request: Request, n: u16, before: Outcome, i: usize) -> Tally
-    requires { ⌜ (n ≤ 8) × (i < 16) ⌝ }
+fn settle(tally: Tally, request: Request, n: u16, before: Outcome, slot: usize, over: bool) -> Tally
+    requires { ⌜ (n ≤ 8) × (slot < 8) ⌝ }
 {
-    let slot = i / 2;
     if !is_open(request, slot) {
         return tally;
     }
-    let given = ask(settled(request, n, slot, i % 2 == 1), n);
-    tally.with(
-        before.code == PLANNED,
-        stays_planned(before, given.outcome, 1),
-    )
+    let given = ask(settled(request, n, slot, over), n);
+    let stays = stays_planned(before, given.outcome, 1);
+    if holds(request.settings.shape.settle, over) {
+        return tally.with(before.code == PLANNED, stays);
+    }
+    tally.with(!stays, true)
 }
 
 fn is_open(request: Request, i: usize) -> bool

@@ -1,5 +1,5 @@
 // Document 01's table "Where each refusal is checked", for its places lengths, settings and slots, with the rows of
-// document 02's T-01 and T-05. No function of the planner is used here.
+// document 02's T-01, T-05 and T-06. No function of the planner is used here.
 ghost use Prim.Native.Nat.{_≤_};
 use crate::calls::buffer_length;
 use crate::calls::crossed;
@@ -8,6 +8,7 @@ use crate::calls::highest_length;
 use crate::calls::is_plan_given;
 use crate::calls::marks_length;
 use crate::calls::settings;
+use crate::calls::shape;
 use crate::calls::slots;
 use settings::CountRange;
 use settings::Settings;
@@ -19,15 +20,34 @@ pub fn refusal(call: u32) -> u16
     request_refusal(call, marks_length(call) != slots(call))
 }
 
-// The same for a call of the writer: 18 comes last.
+// The same for a call of the judge, which has no highest loads.
+pub fn judge_refusal(call: u32) -> u16
+    ensures { λ r. ⌜ r ≤ 31 ⌝ }
+{
+    let n = slots(call);
+    let wrong = wrong_lengths(n, marks_length(call) != n);
+    if wrong > 0 {
+        return wrong;
+    }
+    wrong_settings(settings(call), n)
+}
+
+// The same for a call of the writer: 28 and 18 come last.
 pub fn writer_refusal(call: u32) -> u16
     ensures { λ r. ⌜ r ≤ 31 ⌝ }
 {
     let number = request_refusal(call, false);
-    if (number == 0) & (buffer_length(call) < 16 + 8 * slots(call)) {
+    if number > 0 {
+        return number;
+    }
+    let shape = shape(call);
+    if shape.settle != 1 {
+        return 28;
+    }
+    if buffer_length(call) < 16 + 8 * slots(call) {
         return 18;
     }
-    number
+    0
 }
 
 // The same for a call of paging: 22 exempts an empty given slice, 34 comes right after 22, and 35 comes last.
@@ -37,8 +57,8 @@ pub fn paging_refusal(call: u32) -> u16
     let n = slots(call);
     let given = given_length(call);
     let wrong = wrong_lengths(
-        call,
-        (marks_length(call) != n) | ((given != n) & (given != 0)),
+        n,
+        (highest_length(call) != n) | (marks_length(call) != n) | ((given != n) & (given != 0)),
     );
     if wrong > 0 {
         return wrong;
@@ -57,21 +77,22 @@ pub fn paging_refusal(call: u32) -> u16
 fn request_refusal(call: u32, different: bool) -> u16
     ensures { λ r. ⌜ r ≤ 31 ⌝ }
 {
-    let wrong = wrong_lengths(call, different);
+    let n = slots(call);
+    let wrong = wrong_lengths(n, (highest_length(call) != n) | different);
     if wrong > 0 {
         return wrong;
     }
     wrong_contents(call)
 }
 
-fn wrong_lengths(call: u32, different: bool) -> u16
+// `different` says whether a slice other than the first has another length.
+fn wrong_lengths(n: u16, different: bool) -> u16
     ensures { λ r. ⌜ r ≤ 22 ⌝ }
 {
-    let n = slots(call);
     if (n == 0) | (n > 64) {
         return 21;
     }
-    if (highest_length(call) != n) | different {
+    if different {
         return 22;
     }
     0
@@ -93,7 +114,7 @@ fn wrong_contents(call: u32) -> u16
 }
 
 fn wrong_settings(settings: Settings, n: u16) -> u16
-    ensures { λ r. ⌜ r ≤ 26 ⌝ }
+    ensures { λ r. ⌜ r ≤ 27 ⌝ }
 {
     if (settings.shape.len == 0) | (settings.shape.len > n) {
         return 23;
@@ -106,6 +127,9 @@ fn wrong_settings(settings: Settings, n: u16) -> u16
     }
     if is_wrong(settings.covered, n) {
         return 26;
+    }
+    if settings.shape.settle > 8 {
+        return 27;
     }
     0
 }

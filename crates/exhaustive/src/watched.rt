@@ -1,5 +1,5 @@
 // Compares the watch with the search: on fixed loads its count is the least number of windows that the search
-// finds with both count ranges 0 to n. The filter is compared with the search on these requests too.
+// finds with both count ranges 0 to n and settle count 0. The filter is compared with the search on these requests too.
 ghost use Prim.Native.Nat.{_≤_};
 use crate::answers::ask;
 use crate::counts::Tally;
@@ -19,7 +19,7 @@ const REFUSED: u32 = 4294967295;
 pub fn compare(tally: Tally, n: u16, number: usize) -> Tally
     requires { ⌜ n ≤ 8 ⌝ }
 {
-    let mut request = sample_request(n, 1, number);
+    let mut request = sample_request(n, 0, 1, number);
     if (request.settings.windows.most != n) | (request.settings.covered.most != n) {
         return tally;
     }

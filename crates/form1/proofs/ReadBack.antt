@@ -16,7 +16,7 @@ use Rattle.settings.proofs.Accepted.{Accepted, bridges-le}
 use Rattle.settings.specs.declared.Settings.{Settings}
 use Rattle.form1.specs.Form1.{littleEndian, signed, numberAt, signedAt, trailer, distance, slots, settings, form}
 use Rattle.form1.specs.Form1.{rangeOf, wrongSize, wrongEnd, wrongForm, wrongSlots, wrongDistance, recordsMissing}
-use Rattle.form1.specs.Form1.{fileRefusal}
+use Rattle.form1.specs.Form1.{storedSettle, fileRefusal}
 use Rattle.form1.specs.Layout.{bytes, bits, recordBytes, countsBytes, trailerBytes, encode, FitRanges}
 use Rattle.form1.specs.Layout.{FitSettings, ReadBack}
 
@@ -120,7 +120,12 @@ module _ (note : List ℕ) (rs : List Range) (s : Settings) where
           field 7 (s .covered .least) (omega (arith, f .covered)),
           field 8 (s .covered .most) (omega (arith, f .covered)),
         )
-        refl
+        λ i. record {
+          k = s .k;
+          shape = record { len = s .shape .len; h = s .shape .h; settle = sym (f .settle) i };
+          windows = s .windows;
+          covered = s .covered;
+        }
 
     -- a load of a record: m is 0 for the lowest, 4 for the highest
     in-record : (i m place : ℕ) → place ≡ length note + (8 * i + m) →
@@ -180,13 +185,15 @@ read-back note rs s some few short-file loads k-fits =
       same-ranges = range-read note rs s few loads;
     }
 
--- accepted settings of fewer than 256 slots fit into the bytes of a trailer
-pub accepted→fit : (n : ℕ) (s : Settings) → n < 256 → SFits w32 (s .k) → Accepted n s → FitSettings s
-accepted→fit n s few k a =
+-- accepted settings of fewer than 256 slots fit into the bytes of a trailer, if their settle count is that of all files
+pub accepted→fit : (n : ℕ) (s : Settings) → n < 256 → SFits w32 (s .k) → s .shape .settle ≡ storedSettle →
+    Accepted n s → FitSettings s
+accepted→fit n s few k settle a =
     record {
       k = k;
       len = omega (arith, a .length);
       h = omega (arith, bridges-le (s .shape) (a .bridges), a .length);
+      settle = settle;
       windows = (omega (arith, a .windows), omega (arith, a .windows));
       covered = (omega (arith, a .covered), omega (arith, a .covered));
     }

@@ -39,11 +39,19 @@ distance file = numberAt 2 (trailer file) file
 unfoldable pub slots : List ℕ → ℕ
 slots file = numberAt 1 (trailer file + 2) file
 
+-- the settle count of every file, as form 1 has no field for it (document 02, T-06)
+abbrev pub storedSettle : ℕ
+storedSettle = 1
+
 unfoldable pub settings : List ℕ → Settings
 settings file =
     record {
       k = signedAt (trailer file + 9) file;
-      shape = record { len = numberAt 1 (trailer file + 3) file; h = numberAt 1 (trailer file + 4) file };
+      shape = record {
+        len = numberAt 1 (trailer file + 3) file;
+        h = numberAt 1 (trailer file + 4) file;
+        settle = storedSettle;
+      };
       windows = record { least = numberAt 1 (trailer file + 5) file; most = numberAt 1 (trailer file + 6) file };
       covered = record { least = numberAt 1 (trailer file + 7) file; most = numberAt 1 (trailer file + 8) file };
     }

@@ -12,7 +12,7 @@ use mir.Val.{SFits}
 use Rattle.rule.specs.declared.Range.{Range}
 use Rattle.settings.specs.declared.CountRange.{CountRange}
 use Rattle.settings.specs.declared.Settings.{Settings}
-use Rattle.form1.specs.Form1.{settings, slots, rangeOf, note, tabulate, fileRefusal}
+use Rattle.form1.specs.Form1.{storedSettle, settings, slots, rangeOf, note, tabulate, fileRefusal}
 
 -- a number in `size` bytes, the least significant first
 unfoldable pub bytes : (size n : ℕ) → List ℕ
@@ -53,11 +53,12 @@ abbrev pub FitRanges : List Range → Type 0
 FitRanges [] = Unit
 FitRanges (r ∷ rs) = SFits w32 (r .lowest) × SFits w32 (r .highest) × FitRanges rs
 
--- every setting fits into its bytes
+-- every setting fits into its bytes, and the settle count is the one that all files have
 pub record FitSettings (s : Settings) : Type 0 where
   pub k : SFits w32 (s .k)
   pub len : s .shape .len < 256
   pub h : s .shape .h < 256
+  pub settle : s .shape .settle ≡ storedSettle
   pub windows : (s .windows .least < 256) × (s .windows .most < 256)
   pub covered : (s .covered .least < 256) × (s .covered .most < 256)
 

@@ -19,6 +19,9 @@ use settings::Settings;
 // How many bytes the trailer has.
 pub const TRAILER: usize = 16;
 
+// The settle count of every file, as form 1 has no field for it.
+pub const SETTLE: u16 = 1;
+
 // The byte at a place of the trailer.
 pub(crate) fn byte(file: &[u8], place: usize) -> u8
     requires { ⌜ (16 ≤ length (now file)) × (place < 16) ⌝ }
@@ -59,6 +62,7 @@ pub(crate) fn settings(file: &[u8]) -> Settings
         shape: Shape {
             len: byte(file, 3) as u16,
             h: byte(file, 4) as u16,
+            settle: SETTLE,
         },
         windows: counts(file, 5),
         covered: counts(file, 7),

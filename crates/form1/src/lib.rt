@@ -20,6 +20,7 @@ mod bytes;
 mod check;
 mod fields;
 
+pub use fields::SETTLE;
 pub use fields::TRAILER;
 pub use fields::put_trailer;
 

@@ -23,6 +23,7 @@ readingNumbers code n s =
       k = s .k;
       len = s .shape .len;
       h = s .shape .h;
+      settle = s .shape .settle;
       «windows_least» = s .windows .least;
       «windows_most» = s .windows .most;
       «covered_least» = s .covered .least;
@@ -31,7 +32,7 @@ readingNumbers code n s =
 
 -- the code is 0 for a file that is taken, else the refusal's number, with zeros
 abbrev pub headerNumbers : Answer Header → ReadingNumbers
-headerNumbers (refuses r) = readingNumbers (number r) 0 (settingsOf (pos 0) 0 0 0 0 0 0)
+headerNumbers (refuses r) = readingNumbers (number r) 0 (settingsOf (pos 0) 0 0 0 0 0 0 0)
 headerNumbers (gives header) = readingNumbers 0 (header .n) (header .settings)
 
 -- the code is 0 for a slot of the file, else the refusal's number, with zeros

@@ -8,7 +8,6 @@ use lib.IntN.{ℤ}
 use Rattle.refusals.specs.Answer.{Answer, refuses, gives}
 use Rattle.refusals.specs.Numbers.{number, slot}
 use Rattle.refusals.specs.declared.Refusal.{Refusal}
-use Rattle.rule.specs.Rule.{shaped}
 use Rattle.judge.specs.Judgment.{Judgment, says, judgment}
 use Rattle.settings.specs.declared.Settings.{Settings}
 use Rattle.requests.specs.Promise.{Result, no-plan, planned, Outcome, Unaltered, Planned, NoPlan, Keeps}
@@ -17,11 +16,11 @@ use Rattle.requests.specs.declared.PlanCounts.{PlanCounts}
 use Rattle.icecoppice.specs.declared.AnswerNumbers.{AnswerNumbers}
 use Rattle.icecoppice.specs.declared.VerdictNumbers.{VerdictNumbers}
 
-abbrev pub settingsOf : ℤ → (len h windows-least windows-most covered-least covered-most : ℕ) → Settings
-settingsOf k len h wl wm cl cm =
+abbrev pub settingsOf : ℤ → (len h settle windows-least windows-most covered-least covered-most : ℕ) → Settings
+settingsOf k len h settle wl wm cl cm =
     record {
       k = k;
-      shape = shaped len h;
+      shape = record { len = len; h = h; settle = settle };
       windows = record { least = wl; most = wm };
       covered = record { least = cl; most = cm };
     }

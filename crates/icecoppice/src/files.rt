@@ -22,6 +22,7 @@ pub struct ReadingNumbers {
     pub k: i32,
     pub len: u16,
     pub h: u16,
+    pub settle: u16,
     pub windows_least: u16,
     pub windows_most: u16,
     pub covered_least: u16,
@@ -56,7 +57,7 @@ pub extern "C" fn icecoppice_read(
 {
     let reading = read(file, lowest, highest);
     match reading {
-        Reading::Refused(refusal) => numbers(refusal.number(), 0, gather(0, 0, 0, 0, 0, 0, 0)),
+        Reading::Refused(refusal) => numbers(refusal.number(), 0, gather(0, 0, 0, 0, 0, 0, 0, 0)),
         Reading::Taken { settings, n } => numbers(0, n, settings),
     }
 }
@@ -85,6 +86,7 @@ pub extern "C" fn icecoppice_write(
     k: i32,
     len: u16,
     h: u16,
+    settle: u16,
     windows_least: u16,
     windows_most: u16,
     covered_least: u16,
@@ -94,13 +96,14 @@ pub extern "C" fn icecoppice_write(
     out: &mut [u8],
 ) -> WritingNumbers
     ensures { λ r. ⌜ WritesInNumbers
-        (settingsOf k len h «windows_least» «windows_most» «covered_least» «covered_most»)
+        (settingsOf k len h settle «windows_least» «windows_most» «covered_least» «covered_most»)
         (now (lowest .entry)) (now (highest .entry)) (now (out .entry)) r (now (out .exit)) ⌝ }
 {
     let settings = gather(
         k,
         len,
         h,
+        settle,
         windows_least,
         windows_most,
         covered_least,
@@ -130,6 +133,7 @@ fn numbers(code: u16, n: usize, settings: Settings) -> ReadingNumbers
         k: settings.k,
         len: settings.shape.len,
         h: settings.shape.h,
+        settle: settings.shape.settle,
         windows_least: settings.windows.least,
         windows_most: settings.windows.most,
         covered_least: settings.covered.least,

@@ -58,6 +58,7 @@ pub extern "C" fn icecoppice_filter(
     k: i32,
     len: u16,
     h: u16,
+    settle: u16,
     windows_least: u16,
     windows_most: u16,
     covered_least: u16,
@@ -67,7 +68,7 @@ pub extern "C" fn icecoppice_filter(
     marks: &mut [u8],
 ) -> AnswerNumbers
     ensures { λ r. ⌜ KeepsInNumbers
-        (requestOf (settingsOf k len h «windows_least» «windows_most» «covered_least» «covered_most»)
+        (requestOf (settingsOf k len h settle «windows_least» «windows_most» «covered_least» «covered_most»)
         (now (lowest .entry)) (now (highest .entry)) (now (marks .entry)))
         r (now (lowest .exit)) (now (highest .exit)) (now (marks .exit)) ⌝ }
 {
@@ -75,6 +76,7 @@ pub extern "C" fn icecoppice_filter(
         k,
         len,
         h,
+        settle,
         windows_least,
         windows_most,
         covered_least,
@@ -89,6 +91,7 @@ pub extern "C" fn icecoppice_judge(
     k: i32,
     len: u16,
     h: u16,
+    settle: u16,
     windows_least: u16,
     windows_most: u16,
     covered_least: u16,
@@ -97,13 +100,14 @@ pub extern "C" fn icecoppice_judge(
     marks: &[u8],
 ) -> VerdictNumbers
     ensures { λ r. ⌜ r ≡ verdictNumbers (judgment
-        (settingsOf k len h «windows_least» «windows_most» «covered_least» «covered_most»)
+        (settingsOf k len h settle «windows_least» «windows_most» «covered_least» «covered_most»)
         (now (loads .entry)) (now (marks .entry))) ⌝ }
 {
     let settings = gather(
         k,
         len,
         h,
+        settle,
         windows_least,
         windows_most,
         covered_least,
@@ -117,16 +121,17 @@ fn gather(
     k: i32,
     len: u16,
     h: u16,
+    settle: u16,
     windows_least: u16,
     windows_most: u16,
     covered_least: u16,
     covered_most: u16,
 ) -> Settings
-    ensures { λ r. ⌜ r ≡ settingsOf k len h «windows_least» «windows_most» «covered_least» «covered_most» ⌝ }
+    ensures { λ r. ⌜ r ≡ settingsOf k len h settle «windows_least» «windows_most» «covered_least» «covered_most» ⌝ }
 {
     Settings {
         k,
-        shape: Shape { len, h },
+        shape: Shape { len, h, settle },
         windows: CountRange {
             least: windows_least,
             most: windows_most,

@@ -21,6 +21,7 @@ pub extern "C" fn icecoppice_next_plan(
     k: i32,
     len: u16,
     h: u16,
+    settle: u16,
     windows_least: u16,
     windows_most: u16,
     covered_least: u16,
@@ -31,7 +32,7 @@ pub extern "C" fn icecoppice_next_plan(
     marks: &mut [u8],
 ) -> PageNumbers
     ensures { λ r. ⌜ TurnsInNumbers
-        (callOf (settingsOf k len h «windows_least» «windows_most» «covered_least» «covered_most»)
+        (callOf (settingsOf k len h settle «windows_least» «windows_most» «covered_least» «covered_most»)
         (now (lowest .entry)) (now (highest .entry)) (now (given .entry)) (now (marks .entry)))
         r (now (marks .exit)) ⌝ }
 {
@@ -39,6 +40,7 @@ pub extern "C" fn icecoppice_next_plan(
         k,
         len,
         h,
+        settle,
         windows_least,
         windows_most,
         covered_least,

@@ -16,7 +16,7 @@ use Rattle.judge.proofs.ScanStep.{Passes→not-broken, on→Passes}
 use Rattle.rule.specs.ScanState.{slotsAfter, advanced}
 use Rattle.rule.specs.BridgeCount.{running}
 use Rattle.judge.specs.ScanStep.{stepOf}
-use Rattle.rule.specs.Rule.{over, carries, legal}
+use Rattle.rule.specs.Rule.{over, clear, carries, legal}
 use Rattle.rule.specs.declared.ScanState.{ScanState}
 use Rattle.rule.specs.declared.Shape.{Shape}
 use Rattle.judge.specs.declared.marks.Step.the-variants.{On, Broken}
@@ -36,15 +36,15 @@ module _ (k : ℤ) (shape : Shape) (xs : List ℤ) (ms : List ℕ) where
     pub to : legal k shape xs ms ≡ true → LegalFrom (carries k) shape at (drop i xs) (drop i ms)
     pub from : LegalFrom (carries k) shape at (drop i xs) (drop i ms) → legal k shape xs ms ≡ true
 
-  pub scan-start : LeftToScan start 0
-  unfolding running
+  pub scan-start : LeftToScan (start 0) 0
+  unfolding running clear
   scan-start =
       record {
         slots = omega arith;
         counted = refl;
         fits = omega arith;
-        to = legal→from (carries k) shape xs ms;
-        from = from→legal (carries k) shape xs ms;
+        to = λ e. legal→from (carries k) shape xs ms 0 e refl;
+        from = λ o. from→legal (carries k) shape xs ms 0 o .0;
       }
 
   module _ (at : ScanState) (i : ℕ) (left : LeftToScan at i) where
@@ -69,7 +69,7 @@ module _ (k : ℤ) (shape : Shape) (xs : List ℤ) (ms : List ℕ) where
       m = getD ms i 0
 
       legal→split : legal k shape xs ms ≡ true →
-          Passes shape at (carries k x m) m × LegalFrom (carries k) shape (advanced at m)
+          Passes shape at (carries k x m) m × LegalFrom (carries k) shape (advanced (shape .settle) at m)
           (drop (i + 1) xs) (drop (i + 1) ms)
       legal→split e =
           legalFrom-split (carries k) shape at _ x _ m (rw (uncons xs i (pos 0) hx, uncons ms i 0 hm) at (left .to e))

@@ -2,7 +2,7 @@
 use Prim.Native.Nat.{ℕ, _+_}
 use mathlib.Core.Bool.{Bool, cond, not, _&&_}
 use lib.Dec.{leb, eqb}
-use Rattle.rule.specs.ScanState.{slotsAfter, bridgesAfter, advanced}
+use Rattle.rule.specs.ScanState.{slotsAfter, bridgesAfter, tooSoon, advanced}
 use Rattle.rule.specs.Rule.{goesWith, follows}
 use Rattle.rule.specs.declared.ScanState.{ScanState}
 use Rattle.rule.specs.declared.Shape.{Shape}
@@ -15,11 +15,12 @@ unfoldable pub passes : Shape → ScanState → (over : Bool) (m : ℕ) → Bool
 passes shape at o m =
     goesWith o m
     && follows (at .mark) m
+    && not (tooSoon (at .owed) m)
     && leb (slotsAfter (at .slots) m) (shape .len)
     && leb (bridgesAfter (at .bridges) m) (shape .h)
 
 unfoldable pub stepOf : Shape → ScanState → (over : Bool) (m : ℕ) → Step
-stepOf shape at o m = cond (passes shape at o m) (On (advanced at m)) Broken
+stepOf shape at o m = cond (passes shape at o m) (On (advanced (shape .settle) at m)) Broken
 
 abbrev pub withMark : Counts → ℕ → Counts
 withMark seen m = record {

@@ -4,7 +4,7 @@ ghost use Prim.Native.Nat.{_≤_, _<_};
 ghost use lib.ListN.{length};
 ghost use Rattle.rule.specs.Rule.{follows, goesWith, legal as Rule·legal, windows, covered};
 ghost use Rattle.settings.specs.Refusals.{limit};
-ghost use Rattle.rule.specs.ScanState.{slotsAfter, bridgesAfter, advanced};
+ghost use Rattle.rule.specs.ScanState.{slotsAfter, bridgesAfter, owedAfter, tooSoon, advanced};
 ghost use Rattle.judge.specs.ScanStep.{stepOf, withMark};
 use rule::ScanState;
 use rule::Shape;
@@ -85,16 +85,35 @@ fn bridges_after(bridges: u16, mark: u8) -> u16
     }
 }
 
+// The uncovered slots owed after it before the next window may open.
+fn owed_after(settle: u16, owed: u16, mark: u8) -> u16
+    ensures { λ r. ⌜ r ≡ owedAfter settle owed mark ⌝ }
+{
+    match mark {
+        0 => if owed == 0 { 0 } else { owed - 1 },
+        1 => settle,
+        2..=255 => owed,
+    }
+}
+
 // The scan state after a slot with this mark.
-fn advance(at: ScanState, mark: u8) -> ScanState
+fn advance(settle: u16, at: ScanState, mark: u8) -> ScanState
     requires { ⌜ (at .slots < limit) × (at .bridges < limit) ⌝ }
-    ensures { λ r. ⌜ r ≡ advanced at mark ⌝ }
+    ensures { λ r. ⌜ r ≡ advanced settle at mark ⌝ }
 {
     ScanState {
         mark,
         slots: slots_after(at.slots, mark),
         bridges: bridges_after(at.bridges, mark),
+        owed: owed_after(settle, at.owed, mark),
     }
+}
+
+// Whether a slot with this mark opens a window while slots are owed.
+fn too_soon(owed: u16, mark: u8) -> bool
+    ensures { λ r. ⌜ r ≡ tooSoon owed mark ⌝ }
+{
+    mark == 1 && owed > 0
 }
 
 // Scans one more slot, given its mark and whether its load is over.
@@ -108,7 +127,10 @@ fn scan_slot(shape: Shape, at: ScanState, over: bool, mark: u8) -> Step
     if !may_follow(at.mark, mark) {
         return Step::Broken;
     }
-    let next = advance(at, mark);
+    if too_soon(at.owed, mark) {
+        return Step::Broken;
+    }
+    let next = advance(shape.settle, at, mark);
     if next.slots > shape.len {
         return Step::Broken;
     }
@@ -127,6 +149,7 @@ pub(crate) fn legal(settings: Settings, loads: &[i32], marks: &[u8]) -> bool
         mark: 0,
         slots: 0,
         bridges: 0,
+        owed: 0,
     };
     let mut i = 0;
     while i < marks.len() {

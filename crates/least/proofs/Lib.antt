@@ -1,3 +1,4 @@
+pub mod AfterLoop
 pub mod RowLoops
 mod FirstSlots
 pub mod InsideLoop

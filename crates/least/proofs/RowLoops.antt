@@ -21,7 +21,7 @@ use Rattle.requests.proofs.LeastCounts.{fewest-is, fewest-le, fewest-longer}
 use Rattle.least.proofs.InsideLoop.{from-slot}
 use Rattle.requests.specs.Best.{usingOne, saturatingSuc, best, fewest}
 use Rattle.rule.specs.ClassCodes.{decode, decodeAll}
-use Rattle.least.specs.Rows.{Row, RowAfter, leastFrom, insideFrom, firstBelow, thriftBelow}
+use Rattle.least.specs.Rows.{Row, RowAfter, leastFrom, afterFrom, insideFrom, firstBelow, thriftBelow}
 use Rattle.requests.specs.Solution.{sentinel}
 
 module _ (s : Settings) (classes : List ℕ) where
@@ -52,8 +52,9 @@ module _ (s : Settings) (classes : List ℕ) where
         rw (from-slot classes i e, cannot-be-uncovered (getD classes i 0) o, is, after-is) (by w)
       where
         by : (w : ℕ) → min sentinel
-            (1 + min (usingOne sentinel w (least (i + 1))) (usingOne sentinel w (insideFrom s cs (i + 1))))
-            ≡ saturatingSuc sentinel (usingOne sentinel w λ v. min (least (i + 1) v) (insideFrom s cs (i + 1) v))
+            (1 + min (usingOne sentinel w (afterFrom s cs (i + 1))) (usingOne sentinel w (insideFrom s cs (i + 1))))
+            ≡ saturatingSuc sentinel
+            (usingOne sentinel w λ v. min (afterFrom s cs (i + 1) v) (insideFrom s cs (i + 1) v))
         by zero = omega arith
         by (suc w) = omega arith
 
@@ -94,10 +95,6 @@ module _ (s : Settings) (classes : List ℕ) where
     pub row-end : {row : List ℕ} {i : ℕ} → i ≤ 0 → RowFrom after row i → (w : ℕ) →
         RowAfter s cs w after → Row s cs w row
     row-end e f w b = record { wide = f .wide; counts = λ j l. f .counts w b j (omega arith) l }
-
-  -- the row for w windows is what comes after a window where w + 1 windows are left, this one included
-  pub row→after : {row : List ℕ} {w : ℕ} → Row s cs w row → RowAfter s cs (w + 1) row
-  row→after r = rw add-one (record { wide = r .wide; counts = r .counts })
 
   abbrev c : ℕ
   c = s .covered .most
@@ -170,15 +167,15 @@ module _ (s : Settings) (classes : List ℕ) where
         thrift-so-far = refl;
       }
 
-  pub rows-step : (v first more : ℕ) {thrift thrift′ : ℕ} {after row : List ℕ} → RowsSoFar v after first thrift →
-      ((w : ℕ) → RowAfter s cs w after → Row s cs w row) → more ≡ cond (leb (getD row 0 0) c) 0 1 →
-      thrift′ ≡ cond (ltb first v) thrift (getD row 0 0) →
-      RowsSoFar (v + 1) row (first + more) thrift′
-  rows-step v first more r next is kept =
+  pub rows-step : (v first more : ℕ) {thrift thrift′ : ℕ} {after row after′ : List ℕ} →
+      RowsSoFar v after first thrift → ((w : ℕ) → RowAfter s cs w after → Row s cs w row) →
+      ((w : ℕ) → Row s cs w row → RowAfter s cs (w + 1) after′) → more ≡ cond (leb (getD row 0 0) c) 0 1 →
+      thrift′ ≡ cond (ltb first v) thrift (getD row 0 0) → RowsSoFar (v + 1) after′ (first + more) thrift′
+  rows-step v first more r next mask is kept =
       let row = next v (r .row) in
       let count = row .counts 0 (omega arith) in
       record {
-        row = row→after row;
+        row = mask v row;
         first-so-far = rw (is, count) (first-step v first (r .first-so-far));
         thrift-so-far =
             rw add-one (kept ∙ thrift-step v (first-end v first (r .first-so-far)) (r .thrift-so-far) count);

@@ -40,10 +40,16 @@ pub record Row (s : Settings) (cs : List Class) (w : ℕ) (row : List ℕ) : Typ
   pub counts : (i : ℕ) → i ≤ limit → getD row i 0 ≡ leastFrom s cs i w
 
 -- What comes after a window, where at most w windows are left, this one included: for each slot the
--- least covered count of the slots from there on, with one window fewer. Where w is 0 there is no plan.
+-- least covered count of the slots from there on, with one window fewer and the slots owed first. Where w is 0 there is
+-- no plan.
 pub record RowAfter (s : Settings) (cs : List Class) (w : ℕ) (after : List ℕ) : Type 0 where
   pub wide : length after ≡ places
   pub counts : (i : ℕ) → i ≤ limit → getD after i 0 ≡ usingOne sentinel w (afterFrom s cs i)
+
+-- How many of the settle slots owed a window lacks that closes before a slot of class c, up to the next slot that must
+-- be over; `next` is how many one lacks that closes after it. A window may close where it lacks none.
+abbrev pub lackingBefore : (settle : ℕ) → Class → (next : ℕ) → ℕ
+lackingBefore settle c next = cond (allows c 0) (next - 1) settle
 
 -- A window extended by the next slot, where `after` is the least covered count of what comes after that slot. A slot
 -- that can be over is taken as over, and the window may close after it; any other is a bridge, where one is left.

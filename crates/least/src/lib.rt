@@ -3,14 +3,15 @@
 // on. What these counts are is `best` (crates/requests/specs/Best.antt).
 ghost use mathlib.Core.Bool.{cond};
 ghost use mathlib.Core.Path.{_≡_};
-ghost use lib.Dec.{leb, ltb};
+ghost use lib.Dec.{leb, ltb, eqb};
 ghost use Prim.Native.Nat.{ℕ, _+_, _-_, _≤_, _<_, min};
 ghost use lib.ListN.{length, take};
 ghost use Rattle.settings.specs.Refusals.{limit, places};
 ghost use Rattle.requests.specs.Best.{usingOne};
 ghost use Rattle.rule.specs.ClassCodes.{decode, decodeAll};
 ghost use Rattle.least.specs.Counts.{Counted};
-ghost use Rattle.least.specs.Rows.{Row, RowAfter, leastFrom, insideFrom, firstBelow, thriftBelow, extended};
+ghost use Rattle.least.specs.Rows.{Row, RowAfter, leastFrom, insideFrom, firstBelow, thriftBelow};
+ghost use Rattle.least.specs.Rows.{extended, lackingBefore};
 ghost use Rattle.requests.specs.Solution.{sentinel};
 use rule::OVER;
 use rule::UNDER;
@@ -31,11 +32,11 @@ pub struct UnderWay {
 }
 
 // What comes after a window, where at most w windows are left, this one included. At each slot's place
-// `after` has the least covered count of the slots from there on, with at most w - 1 windows, or NO_PLAN; at
-// every place past the last slot it has 0. Where w is 0 it has NO_PLAN at all places. `first` is the first
-// window count below w with which the covered maximum is kept, or w; a maximum of NO_PLAN is always kept.
-// `thrift` is the least covered count with that many windows, or with w - 1 where `first` is w; where w is 0 it
-// is NO_PLAN.
+// `after` has the least covered count of the slots from there on, with at most w - 1 windows, or NO_PLAN, also
+// where one of the slots owed after the window must be over; at every place past the last slot it has 0. Where
+// w is 0 it has NO_PLAN at all places. `first` is the first window count below w with which the covered maximum
+// is kept, or w; a maximum of NO_PLAN is always kept. `thrift` is the least covered count with that many
+// windows, or with w - 1 where `first` is w; where w is 0 it is NO_PLAN.
 struct Filled {
     after: [u16; PLACES],
     first: u16,
@@ -104,14 +105,13 @@ fn extend(window: UnderWay, class: u8, after: u16) -> UnderWay
     }
 }
 
-// The most slots that a window has after its first.
-fn later_slots(len: u16) -> u16
-    ensures { λ r. ⌜ r ≡ len - 1 ⌝ }
+fn one_fewer(n: u16) -> u16
+    ensures { λ r. ⌜ r ≡ n - 1 ⌝ }
 {
-    if len == 0 {
+    if n == 0 {
         return 0;
     }
-    len - 1
+    n - 1
 }
 
 // The least covered count of the slots from `from` on, in a window whose first slot is right before
@@ -122,7 +122,7 @@ fn least_inside(settings: Settings, classes: &[u8], after: &[u16; PLACES], from:
         r ≡ usingOne sentinel w (insideFrom settings (decodeAll (now (classes .entry))) from)) ⌝ }
 {
     let mut window = UnderWay {
-        slots: later_slots(settings.shape.len),
+        slots: one_fewer(settings.shape.len),
         bridges: settings.shape.h,
         covered: 0,
         least: NO_PLAN,
@@ -185,6 +185,45 @@ fn thrift_after(first: u16, v: u16, thrift: u16, count: u16) -> u16
     count
 }
 
+// How many of the slots owed a window lacks that closes right before this slot, up to the next slot that must be over;
+// `next` is how many one lacks that closes after it.
+fn lacking(settle: u16, class: u8, next: u16) -> u16
+    ensures { λ r. ⌜ r ≡ lackingBefore settle (decode class) next ⌝ }
+{
+    if class == OVER {
+        return settle;
+    }
+    one_fewer(next)
+}
+
+// The count, or NO_PLAN where slots are lacking.
+fn unless_lacking(lack: u16, count: u16) -> u16
+    ensures { λ r. ⌜ r ≡ cond (eqb lack 0) count sentinel ⌝ }
+{
+    if lack == 0 {
+        return count;
+    }
+    NO_PLAN
+}
+
+// What comes after a window, from a row of least counts: leaving slots uncovered costs nothing, so that the settle
+// count only keeps a window from closing where one of the next slots must be over.
+fn after_window(settings: Settings, classes: &[u8], row: &[u16; PLACES]) -> [u16; PLACES]
+    requires { ⌜ (length (now classes) ≤ limit) × (length (now row) ≡ places) ⌝ }
+    ensures { λ r. ⌜ ((w : ℕ) → Row settings (decodeAll (now (classes .entry))) w (now (row .entry)) →
+        RowAfter settings (decodeAll (now (classes .entry))) (w + 1) r) ⌝ }
+{
+    let mut after = [0; PLACES];
+    let mut lack = 0;
+    let mut i = classes.len();
+    while i > 0 {
+        i -= 1;
+        lack = lacking(settings.shape.settle, classes[i], lack);
+        after[i] = unless_lacking(lack, row[i]);
+    }
+    after
+}
+
 // The rows for fewer than w windows, of which only the last is kept.
 fn fill_rows(settings: Settings, classes: &[u8], w: u16) -> Filled
     requires { ⌜ length (now classes) ≤ limit ⌝ }
@@ -197,8 +236,9 @@ fn fill_rows(settings: Settings, classes: &[u8], w: u16) -> Filled
     let mut thrift = NO_PLAN;
     let mut v = 0;
     while v < w {
-        after = next_row(settings, classes, &after);
-        let count = after[0];
+        let row = next_row(settings, classes, &after);
+        let count = row[0];
+        after = after_window(settings, classes, &row);
         thrift = thrift_after(first, v, thrift, count);
         first += above(count, settings.covered.most);
         v += 1;
@@ -210,14 +250,15 @@ fn fill_rows(settings: Settings, classes: &[u8], w: u16) -> Filled
     }
 }
 
-// The row for w windows, which is what comes after a window where they are left.
+// What comes after a window, where w windows are left, from the row for so many.
 fn last_row(settings: Settings, classes: &[u8], w: u16) -> [u16; PLACES]
     requires { ⌜ length (now classes) ≤ limit ⌝ }
     ensures { λ r. ⌜ RowAfter settings (decodeAll (now (classes .entry))) (w + 1) r ⌝ }
 {
     let filled = fill_rows(settings, classes, w);
     let after = filled.after;
-    next_row(settings, classes, &after)
+    let row = next_row(settings, classes, &after);
+    after_window(settings, classes, &row)
 }
 
 // The least counts, read off the rows.
@@ -248,8 +289,8 @@ fn at_most_limit(n: usize) -> usize
 }
 
 // What comes after a window, where at most w windows are left after it: at the place of each of the first LIMIT
-// slots the least covered count of the slots from there on, or NO_PLAN, and 0 at every later place. The settings are not
-// checked: a len of 0 counts as 1.
+// slots the least covered count of the slots from there on, or NO_PLAN, also where one of the slots owed must be over,
+// and 0 at every later place. The settings are not checked: a len of 0 counts as 1.
 pub fn row_after(settings: Settings, classes: &[u8], w: u16) -> [u16; PLACES]
     ensures { λ r. ⌜ RowAfter settings (decodeAll (take limit (now (classes .entry)))) (w + 1) r ⌝ }
 {

@@ -14,13 +14,21 @@ use Rattle.rule.specs.declared.Shape.{Shape}
 use Rattle.published.proofs.Sets.{Within, _∈_, each, each-to, all, some, which}
 use Rattle.published.proofs.LoadsFrom.{From, from, all-over, each-over}
 use Rattle.published.proofs.Drawn.{drawn}
-use Rattle.published.specs.Published.{Sequence, Holds, size, Some, sum, load, bridges, Window, Obeys}
-use Rattle.published.specs.Published.{Focus, SpringyFocus, WeightedFocus, WeightedSpringyFocus}
+use Rattle.published.specs.Published.{Sequence, Holds, size, Each, Some, sum, load, bridges, Window, Apart}
+use Rattle.published.specs.Published.{Obeys, Focus, SpringyFocus, WeightedFocus, WeightedSpringyFocus}
 
 module _ (X : List ℤ) (yc : ℕ) (shape : Shape) (k : ℤ) (zc : ℕ) (S : List Sequence) (o : Obeys k shape yc zc X S) where
   -- windows that obey the rule obey it with any other maximums that they are within
   pub recount : {yc′ zc′ : ℕ} → length S ≤ yc′ → sum size S ≤ zc′ → Obeys k shape yc′ zc′ X S
-  recount number summed = record { set = o .set; cover = o .cover; kept = o .kept; number = number; summed = summed }
+  recount number summed =
+      record {
+        set = o .set;
+        cover = o .cover;
+        kept = o .kept;
+        settled = o .settled;
+        number = number;
+        summed = summed;
+      }
 
   -- windows that obey the rule have at most n slots in all, as n marks draw them
   no-more : sum size S ≤ length X
@@ -31,6 +39,10 @@ module _ (X : List ℤ) (yc : ℕ) (shape : Shape) (k : ℤ) (zc : ℕ) (S : Lis
   -- so a covered maximum of n rules nothing out
   pub covered-at-length : Obeys k shape yc (length X) X S
   covered-at-length = recount (o .number) no-more
+
+-- windows may touch where no slots are owed
+may-touch : (S : List Sequence) → Each (λ s. Each (Apart 0 s) S) S
+may-touch S = all _ S (λ s _. all _ S (λ t _ e. omega arith))
 
 -- a window has no bridges exactly when each of its slots is over
 module _ (X : List ℤ) (k : ℤ) (s : Sequence) (w : Within (length X) s) where
@@ -53,6 +65,7 @@ module _ (X : List ℤ) (yc len : ℕ) (k : ℤ) (zc : ℕ) (S : List Sequence) 
             set = d .set;
             cover = λ l ln. d .c2 l ln .0;
             kept = all (Window k (shaped len 0) X) S kept;
+            settled = may-touch S;
             number = d .c1;
             summed = d .c4;
           }
@@ -98,6 +111,7 @@ module _ (X : List ℤ) (yc len h : ℕ) (k : ℤ) (zc : ℕ) (S : List Sequence
             set = d .set;
             cover = d .c2;
             kept = all (Window k (shaped len h) X) S kept;
+            settled = may-touch S;
             number = d .c1;
             summed = d .c5;
           }

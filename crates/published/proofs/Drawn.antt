@@ -21,8 +21,8 @@ use Rattle.rule.specs.declared.Shape.{Shape}
 use Rattle.published.proofs.Draws.{rest-nil, draws}
 use Rattle.published.proofs.Sets.{Within, _∈_, each, all, some, which, into, share→same, same-set}
 use Rattle.published.proofs.LoadsFrom.{From, none, more, from, from-drop, unders-over, unders-under}
-use Rattle.published.specs.Published.{Sequence, Holds, size, Some, sum, _⊆_, load, unders, Window, Obeys}
-use Rattle.published.specs.Published.{sequencesOf}
+use Rattle.published.specs.Published.{Sequence, Holds, size, Each, Some, sum, _⊆_, load, unders, Window}
+use Rattle.published.specs.Published.{Apart, Obeys, sequencesOf}
 
 -- legal marks that draw S
 abbrev DrawnBy : (k : ℤ) (shape : Shape) (X : List ℤ) (S : List Sequence) → Type 0
@@ -39,10 +39,14 @@ module _ (k : ℤ) (shape : Shape) (yc zc : ℕ) (X : List ℤ) (S : List Sequen
   abbrev Free : ℕ → Type 0
   Free l = (s : Sequence) → s ∈ S → s .first < l → s .last < l
 
-  -- marks from slot l on, outside a window
-  record Outside (l : ℕ) (xs : List ℤ) : Type 0 where
+  -- every window that does not begin before slot l leaves q slots before it
+  abbrev Clear : (q l : ℕ) → Type 0
+  Clear q l = (s : Sequence) → s ∈ S → l ≤ s .first → l + q ≤ s .first
+
+  -- marks from slot l on, outside a window, where q slots are owed
+  record Outside (q l : ℕ) (xs : List ℤ) : Type 0 where
     marks : List ℕ
-    plan : PlanBy (carries k) shape (out 0) xs marks
+    plan : PlanBy (carries k) shape (out q) xs marks
     members : (t : Sequence) → t ∈ sequencesOf l marks → t ∈ S
 
   -- marks from slot l on, with n slots left of the window under way
@@ -61,7 +65,7 @@ module _ (k : ℤ) (shape : Shape) (yc zc : ℕ) (X : List ℤ) (S : List Sequen
 
   -- what is to be chosen from slot l on, outside a window and in one
   abbrev OutsideFrom : ℕ → List ℤ → Type 0
-  OutsideFrom l xs = Free l → Outside l xs
+  OutsideFrom l xs = (q : ℕ) → Free l → Clear q l → Outside q l xs
 
   abbrev InsideFrom : ℕ → List ℤ → Type 0
   InsideFrom l xs =
@@ -80,6 +84,12 @@ module _ (k : ℤ) (shape : Shape) (yc zc : ℕ) (X : List ℤ) (S : List Sequen
       let i =
       share→same (s .last) (rule .set .1) tm m (omega arith, omega arith) (omega (arith, within m), omega arith) in
       omega (arith, ap (λ (t : Sequence). t .last) i)
+
+  -- and the next one settles
+  clear-after : {s : Sequence} {l : ℕ} → s ∈ S → l ≡ s .last → Clear (shape .settle) (suc l)
+  clear-after {s} {l} m e t tm bound =
+      let apart = each (Apart (shape .settle) s) (each (λ s. Each (Apart (shape .settle) s) S) (rule .settled) m) tm in
+      omega (arith, apart (omega arith))
 
   -- nor is one after an under slot, if none was before it: a window begins with an over slot
   free-after-under : {l : ℕ} → load X l ≤ℤ k → Free l → Free (suc l)
@@ -115,8 +125,9 @@ module _ (k : ℤ) (shape : Shape) (yc zc : ℕ) (X : List ℤ) (S : List Sequen
   after : {l : ℕ} {xs : List ℤ} → OutsideFrom (suc l) xs → InsideFrom (suc l) xs → (s : Sequence) (n r b : ℕ) →
       UnderWay s (suc l) n r b xs →
       Inside true (suc l) n r b xs
-  after o i s zero r b y =
-      let t = o (free-after (y .member) (omega (arith, y .last))) in
+  after {l} o i s zero r b y =
+      let last : l ≡ s .last = omega (arith, y .last) in
+      let t = o (shape .settle) (free-after (y .member) last) (clear-after (y .member) last) in
       record { marks = t .marks; plan = close (t .plan); left = rest-nil k shape (t .plan); members = t .members }
   after o i s (suc n) zero b y = absurd (omega (arith, y .slots))
   after o i s (suc n) (suc r) b y = i true s n r b y
@@ -128,7 +139,7 @@ module _ (k : ℤ) (shape : Shape) (yc zc : ℕ) (X : List ℤ) (S : List Sequen
 
     -- an over slot outside a window opens the window that covers it
     opened : {n : ℕ} (s : Sequence) → s ∈ S → s .first ≡ l → l + n ≡ s .last →
-        Inside true (suc l) n (shape .len - 1) (shape .h) xs → Outside l here
+        Inside true (suc l) n (shape .len - 1) (shape .h) xs → Outside 0 l here
     unfolding sequencesOf goesWith
     opened s m first last t =
         let same = sequence-is s (l + length (rest (t .marks))) first (omega (arith, t .left)) in
@@ -140,16 +151,18 @@ module _ (k : ℤ) (shape : Shape) (yc zc : ℕ) (X : List ℤ) (S : List Sequen
 
     out-step : OutsideFrom l here
     unfolding sequencesOf goesWith
-    out-step free = by (lt-or-le k (load X l))
+    out-step q free clear = by (lt-or-le k (load X l))
       where
-        by : (k <ℤ load X l) ⊎ (load X l ≤ℤ k) → Outside l here
+        by : (k <ℤ load X l) ⊎ (load X l ≤ℤ k) → Outside q l here
         by (inl x) =
             let (s, m, hs) = which (Holds l) S (rule .cover l hl x) in
             let first = starts free m hs in
-            opened s m first (omega (arith, hs)) (after o i s _ _ _ (under-way-begins (more hl f) m first))
+            let none : 0 ≡ q = omega (arith, first, clear s m (omega (arith, first))) in
+            subst (λ q. Outside q l here) none
+            (opened s m first (omega (arith, hs)) (after o i s _ _ _ (under-way-begins (more hl f) m first)))
         by (inr x) =
-            let t = o (free-after-under x free) in
-            record { marks = 0 ∷ t .marks; plan = skip (carry-under 0 refl x) (t .plan); members = t .members }
+            let t = o (q - 1) (free-after-under x free) (λ s m e. omega (arith, clear s m (omega arith))) in
+            record { marks = 0 ∷ t .marks; plan = skip {q = q} (carry-under 0 refl x) (t .plan); members = t .members }
 
     -- the window under way, one slot later
     next : {s : Sequence} {n r b b′ : ℕ} → UnderWay s l (suc n) (suc r) b here → unders k (take n xs) ≤ b′ →
@@ -199,15 +212,16 @@ module _ (k : ℤ) (shape : Shape) (yc zc : ℕ) (X : List ℤ) (S : List Sequen
   marks-from : {l : ℕ} {xs : List ℤ} → From X l xs → OutsideFrom l xs × InsideFrom l xs
   unfolding sequencesOf
   marks-from (none e) = (
-    (λ free. record { marks = []; plan = done; members = λ t m. elim m [ ] }),
+    (λ q free clear. record { marks = []; plan = done; members = λ t m. elim m [ ] }),
     (λ c s n r b y. absurd (omega (arith, y .last, within (y .member)))),
   )
   marks-from (more hl f) =
       let (o, i) = marks-from f in
       (out-step hl f o i, in-step hl f o i)
 
-  found : Outside 0 X
-  found = marks-from (from X 0 (length X) (omega arith)) .0 (λ s m q. absurd (omega arith))
+  found : Outside 0 0 X
+  found =
+      marks-from (from X 0 (length X) (omega arith)) .0 0 (λ s m q. absurd (omega arith)) (λ s m e. omega arith)
 
   -- members of S that obey the rule are all of S: each window of S begins with an over slot, which one of them covers
   whole : {yc′ zc′ : ℕ} (R : List Sequence) → Obeys k (nonzero shape) yc′ zc′ X R →
@@ -241,6 +255,7 @@ drawn k shape yc zc X S rule = by (shape .len) refl S rule
           set = rule .set;
           cover = rule .cover;
           kept = tt;
+          settled = tt;
           number = rule .number;
           summed = rule .summed;
         } in

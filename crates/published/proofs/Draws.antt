@@ -16,10 +16,15 @@ use Rattle.rule.proofs.Plan.{State, out, on, PlanBy, done, skip, opens, close, 
 use Rattle.rule.proofs.Plan.{legal→plan, nonzero-same}
 use Rattle.rule.specs.Rule.{goesWith, rest, countIf, carries, legal, nonzero, windows, covered}
 use Rattle.rule.specs.declared.Shape.{Shape}
-use Rattle.published.proofs.Sets.{Within, DisjointPair, each-to, each-of-none}
+use Rattle.published.proofs.Sets.{Within, DisjointPair, each, all, each-to, each-of-none}
 use Rattle.published.proofs.LoadsFrom.{From, none, more, from, from-drop, unders-over, unders-under}
 use Rattle.published.specs.Published.{Sequence, Holds, size, Each, Some, sum, Disjoint, load, unders, Window}
-use Rattle.published.specs.Published.{Obeys, sequencesOf}
+use Rattle.published.specs.Published.{Apart, Obeys, sequencesOf}
+
+-- how many slots from a state on are still owed before a window may open, after the window under way if there is one
+abbrev owedBy : (settle : ℕ) → State → ℕ
+owedBy settle (out q) = q
+owedBy settle (on c r b) = settle
 
 -- the windows that marks draw obey the rule, and their number and summed length are the counts of the marks
 abbrev Draws : (k : ℤ) (shape : Shape) (X : List ℤ) (ms : List ℕ) → Type 0
@@ -108,10 +113,25 @@ module _ (k : ℤ) (shape : Shape) (X : List ℤ) where
       by (inl p) = subst (λ j. Covered j e′ T) p (at (subst Over (sym p) o))
       by (inr p) = after j p (c j p jn o)
 
-  -- what holds of the windows that the marks from slot l on draw
-  record DrawnFrom (l : ℕ) (ms : List ℕ) : Type 0 where
-    kept : Each (BeginsFrom (l + length (rest ms))) (sequencesOf l ms)
+  abbrev AllApart : List Sequence → Type 0
+  AllApart S = Each (λ s. Each (Apart (shape .settle) s) S) S
+
+  -- a window that comes first, with the settle slots after it
+  apart-cons : (s : Sequence) (S : List Sequence) → s .first ≤ s .last →
+      Each (BeginsFrom (suc (s .last) + shape .settle)) S → AllApart S → AllApart (s ∷ S)
+  apart-cons s S w after settled = (
+    ((λ e. absurd (omega arith)), each-to _ (Apart (shape .settle) s) (λ t b e. omega (arith, b .first-from)) S after),
+    all _ S λ t m.
+        let b = each _ after m in
+        let before = each (λ t. Each (Apart (shape .settle) t) S) settled m in
+        ((λ e. absurd (omega (arith, b .first-from, b .within))), before),
+  )
+
+  -- what holds of the windows that the marks from slot l on draw, where q slots are owed after the window under way
+  record DrawnFrom (q l : ℕ) (ms : List ℕ) : Type 0 where
+    kept : Each (BeginsFrom (l + length (rest ms) + q)) (sequencesOf l ms)
     disjoint : Disjoint (sequencesOf l ms)
+    settled : AllApart (sequencesOf l ms)
     cover : Cover l (l + length (rest ms)) (sequencesOf l ms)
     total : sum size (sequencesOf l ms) + length (rest ms) ≡ covered ms
     number : length (sequencesOf l ms) ≡ windows ms
@@ -135,7 +155,7 @@ module _ (k : ℤ) (shape : Shape) (X : List ℤ) where
   -- the window that a mark 1 opens at slot l
   opened : {l : ℕ} {xs : List ℤ} (ms : List ℕ) → From X l (load X l ∷ xs) → Over l →
       Rest l (shape .len - 1) (shape .h) xs ms →
-      BeginsFrom (l + 0) (record { first = l; last = l + length (rest ms) })
+      BeginsFrom (l + 0 + 0) (record { first = l; last = l + length (rest ms) })
   opened {l} {xs} ms f o t =
       let n = length (rest ms) in
       let e : suc (l + n) - l ≡ suc n = omega arith in
@@ -151,21 +171,34 @@ module _ (k : ℤ) (shape : Shape) (X : List ℤ) where
       }
 
   -- a mark 2 or 3 at slot l, before the rest of the window under way
-  extended : {l : ℕ} (ms : List ℕ) → DrawnFrom (suc l) ms →
-      Each (BeginsFrom (l + suc (length (rest ms)))) (sequencesOf (suc l) ms)
-      × Cover l (l + suc (length (rest ms))) (sequencesOf (suc l) ms)
-  extended {l} ms d =
-      let n = length (rest ms) in (
-        later (omega arith) (sequencesOf (suc l) ms) (d .kept),
-        cover-cons (sequencesOf (suc l) ms) (sequencesOf (suc l) ms) (λ o. inl (omega arith))
-            (covered-continues l n (sequencesOf (suc l) ms)) (d .cover),
-      )
+  extended : {q l : ℕ} (m : ℕ) (ms : List ℕ) → rest (m ∷ ms) ≡ m ∷ rest ms →
+      sequencesOf l (m ∷ ms) ≡ sequencesOf (suc l) ms → covered (m ∷ ms) ≡ suc (covered ms) →
+      windows (m ∷ ms) ≡ windows ms → DrawnFrom q (suc l) ms → DrawnFrom q l (m ∷ ms)
+  extended {l = l} m ms lengthens same covers none-opens d =
+      let S = sequencesOf (suc l) ms in
+      record {
+        kept = rw (lengthens, same) (later (omega arith) S (d .kept));
+        disjoint = rw same (d .disjoint);
+        settled = rw same (d .settled);
+        cover =
+            rw (lengthens, same)
+            (cover-cons S S (λ o. inl (omega arith)) (covered-continues l (length (rest ms)) S) (d .cover));
+        total = rw (lengthens, same, covers) (omega (arith, d .total));
+        number = rw (same, none-opens) (d .number);
+      }
 
   draws-from : {st : State} {l : ℕ} {xs : List ℤ} {ms : List ℕ} → PlanBy (carries k) shape st xs ms →
-      From X l xs → DrawnFrom l ms
+      From X l xs → DrawnFrom (owedBy (shape .settle) st) l ms
   unfolding rest sequencesOf windows covered countIf goesWith
   draws-from done (none e) =
-      record { kept = tt; disjoint = tt; cover = λ j lj jn o. absurd (omega arith); total = omega arith; number = refl }
+      record {
+        kept = tt;
+        disjoint = tt;
+        settled = tt;
+        cover = λ j lj jn o. absurd (omega arith);
+        total = omega arith;
+        number = refl;
+      }
   draws-from (close p) f = draws-from p f
   draws-from (skip {ms = ms} g p) (more {l} hl f) =
       let d = draws-from p f in
@@ -174,6 +207,7 @@ module _ (k : ℤ) (shape : Shape) (X : List ℤ) where
       record {
         kept = later (omega (arith, n)) S (d .kept);
         disjoint = d .disjoint;
+        settled = d .settled;
         cover = cover-cons S S (λ o. clashℤ o (carried-under 0 refl g)) (λ j. covered-after-0 l _ S j n) (d .cover);
         total = omega (arith, n, d .total);
         number = d .number;
@@ -191,29 +225,25 @@ module _ (k : ℤ) (shape : Shape) (X : List ℤ) where
               (d .kept),
           d .disjoint,
         );
+        settled = apart-cons s S (omega arith) (later (omega arith) S (d .kept)) (d .settled);
         cover = cover-cons S (s ∷ S) (λ o. inr (inl (omega arith, omega arith))) (covered-after-1 l n S) (d .cover);
         total = omega (arith, d .total);
         number = ap suc (d .number);
       }
-  draws-from (longer {ms = ms} g p) (more {l} hl f) =
-      let d = draws-from p f in
-      let e = extended ms d in
-      record { kept = e .0; disjoint = d .disjoint; cover = e .1; total = omega (arith, d .total); number = d .number }
-  draws-from (bridged {ms = ms} g p) (more {l} hl f) =
-      let d = draws-from p f in
-      let e = extended ms d in
-      record { kept = e .0; disjoint = d .disjoint; cover = e .1; total = omega (arith, d .total); number = d .number }
+  draws-from (longer {ms = ms} g p) (more hl f) = extended 2 ms refl refl refl refl (draws-from p f)
+  draws-from (bridged {ms = ms} g p) (more hl f) = extended 3 ms refl refl refl refl (draws-from p f)
 
   draws-nonzero : {ms : List ℕ} → PlanBy (carries k) shape (out 0) X ms → Draws k (nonzero shape) X ms
   draws-nonzero {ms} p =
       let d = draws-from p (from X 0 (length X) (omega arith)) in
       let n = rest-nil k shape p in
       let S = sequencesOf 0 ms in
-      let B = BeginsFrom (0 + length (rest ms)) in (
+      let B = BeginsFrom (0 + length (rest ms) + 0) in (
         record {
           set = (each-to B _ (λ s w. w .within) S (d .kept), d .disjoint);
           cover = λ l ln o. by l n (d .cover l (omega arith) ln o);
           kept = each-to B _ (λ s w. w .window) S (d .kept);
+          settled = d .settled;
           number = omega (arith, d .number);
           summed = omega (arith, d .total);
         },
@@ -238,6 +268,7 @@ draws k shape X ms e = by (shape .len) refl
             set = o .set;
             cover = o .cover;
             kept = each-of-none (Window k shape X) (sequencesOf 0 ms) (number ∙ none);
+            settled = o .settled;
             number = o .number;
             summed = o .summed;
           },

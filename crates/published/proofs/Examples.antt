@@ -5,8 +5,8 @@ use mathlib.Core.List.{List, [], _∷_, map}
 use mathlib.Core.Path.{refl, sym, subst}
 use lib.IntN.{ℤ, pos}
 use lib.Signed.{ltZ-yes, _<ℤ_}
-use Rattle.rule.specs.Rule.{over, goesWith, agrees, follows, ordered, rest, countIf, keeps, eachWindow, legalBy}
-use Rattle.rule.specs.Rule.{shaped, windows, covered}
+use Rattle.rule.specs.Rule.{over, goesWith, agrees, follows, ordered, rest, beyond, clear, countIf, keeps}
+use Rattle.rule.specs.Rule.{eachWindow, legalBy, shaped, windows, covered}
 use Rattle.published.proofs.Corners.{covered-at-length, focus, weighted}
 use Rattle.published.proofs.Draws.{draws}
 use Rattle.published.proofs.Sets.{_∈_, Within, DisjointPair, each, into, which, share→same, length-le}
@@ -15,11 +15,13 @@ use Rattle.published.specs.Published.{Sequence, Holds, size, load, Focus
 use Rattle.published.specs.Published.{sequencesOf}
 
 table-1 : WeightedFocus (map pos (1 ∷ 1 ∷ 1 ∷ 1 ∷ 0 ∷ 1 ∷ 1 ∷ 1 ∷ [])) 2 5 (pos 0) 7 (sequence 0 3 ∷ sequence 5 7 ∷ [])
-unfolding over goesWith agrees follows ordered rest countIf keeps eachWindow legalBy windows covered sequencesOf
+unfolding over goesWith agrees follows ordered rest beyond clear countIf keeps eachWindow legalBy windows covered
+    sequencesOf
 table-1 = weighted _ _ _ _ _ _ .1 (draws (pos 0) (shaped 5 0) _ (1 ∷ 2 ∷ 2 ∷ 2 ∷ 0 ∷ 1 ∷ 2 ∷ 2 ∷ []) refl .0)
 
 satisfied : Focus X 2 6 (pos 0) (sequence 0 2 ∷ sequence 4 4 ∷ [])
-unfolding over goesWith agrees follows ordered rest countIf keeps eachWindow legalBy windows covered sequencesOf
+unfolding over goesWith agrees follows ordered rest beyond clear countIf keeps eachWindow legalBy windows covered
+    sequencesOf
 satisfied =
     let o = draws (pos 0) (shaped 6 0) X (1 ∷ 2 ∷ 2 ∷ 0 ∷ 1 ∷ 0 ∷ []) refl .0 in
     focus _ _ _ _ _ .1 (covered-at-length _ _ _ _ _ _ o)

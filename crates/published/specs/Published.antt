@@ -113,12 +113,18 @@ pub record Window (k : ℤ) (shape : Shape) (X : List ℤ) (s : Sequence) : Type
   pub slots : size s ≤ shape .len
   pub bridges-fit : bridges k X s ≤ shape .h
 
--- A window is a run of consecutive slots; windows share no slot and may touch; every over slot lies in a window; the
--- number of windows is at most the window count, and their summed length, bridges included, at most the covered count.
+-- if the window s ends before t begins, at least settle slots lie between them (document 02, T-06)
+abbrev pub Apart : (settle : ℕ) (s t : Sequence) → Type 0
+Apart settle s t = s .last < t .first → s .last + settle < t .first
+
+-- A window is a run of consecutive slots; windows share no slot; every over slot lies in a window; the number of
+-- windows is at most the window count, and their summed length, bridges included, at most the covered count. Between
+-- any two lie at least settle slots; where settle is 0, they may touch.
 pub record Obeys (k : ℤ) (shape : Shape) (mostWindows mostCovered : ℕ) (X : List ℤ) (S : List Sequence) : Type 0 where
   pub set : DisjointSequences (length X) S
   pub cover : (l : ℕ) → l < length X → k <ℤ load X l → Some (Holds l) S
   pub kept : Each (Window k shape X) S
+  pub settled : Each (λ s. Each (Apart (shape .settle) s) S) S
   pub number : length S ≤ mostWindows
   pub summed : sum size S ≤ mostCovered
 
@@ -128,8 +134,8 @@ sequencesOf l [] = []
 sequencesOf l (m ∷ ms) =
     cond (eqb m 1) (record { first = l; last = l + length (rest ms) } ∷ sequencesOf (suc l) ms) (sequencesOf (suc l) ms)
 
--- The four definitions are corners of the rule: with h = 0, with a covered maximum of n, with both, or with neither. No
--- side condition is needed: every k is allowed, and so is h = 0 with len = 1.
+-- The four definitions are corners of the rule at settle 0: with h = 0, with a covered maximum of n, with both, or with
+-- neither. No side condition is needed: every k is allowed, and so is h = 0 with len = 1.
 pub record Corners (X : List ℤ) (yc len h : ℕ) (k : ℤ) (zc : ℕ) (S : List Sequence) : Type 0 where
   pub focus : Focus X yc len k S ↔ Obeys k (shaped len 0) yc (length X) X S
   pub springy : SpringyFocus X yc len h k S ↔ Obeys k (shaped len h) yc (length X) X S

@@ -9,8 +9,8 @@ use Rattle.refusals.specs.Numbers.{number, slot}
 use Rattle.refusals.specs.declared.Refusal.{Refusal}
 use Rattle.refusals.specs.declared.Refusal.the-variants.{Size, End, Form, Slots, Distance, Records, Lent, Buffer}
 use Rattle.refusals.specs.declared.Refusal.the-variants.{Slot, FirstLength, OtherLength, WindowLength, Bridges}
-use Rattle.refusals.specs.declared.Refusal.the-variants.{WindowCounts, CoveredCounts, Crossed, Unreached, Full}
-use Rattle.refusals.specs.declared.Refusal.the-variants.{PagedSlots, GivenPlan}
+use Rattle.refusals.specs.declared.Refusal.the-variants.{WindowCounts, CoveredCounts, SettleCount, StoredSettle}
+use Rattle.refusals.specs.declared.Refusal.the-variants.{Crossed, Unreached, Full, PagedSlots, GivenPlan}
 
 abbrev refusalAt : (number slot : ℕ) → Refusal
 refusalAt n i =
@@ -29,10 +29,12 @@ refusalAt n i =
     (cond (eqb n 24) Bridges
     (cond (eqb n 25) WindowCounts
     (cond (eqb n 26) CoveredCounts
+    (cond (eqb n 27) SettleCount
+    (cond (eqb n 28) StoredSettle
     (cond (eqb n 31) (Crossed i)
     (cond (eqb n 32) Unreached
     (cond (eqb n 33) Full
-    (cond (eqb n 34) PagedSlots GivenPlan))))))))))))))))))
+    (cond (eqb n 34) PagedSlots GivenPlan))))))))))))))))))))
 
 refusalAt-number-slot : (r : Refusal) → refusalAt (number r) (slot r) ≡ r
 refusalAt-number-slot Size = refl
@@ -50,6 +52,8 @@ refusalAt-number-slot WindowLength = refl
 refusalAt-number-slot Bridges = refl
 refusalAt-number-slot WindowCounts = refl
 refusalAt-number-slot CoveredCounts = refl
+refusalAt-number-slot SettleCount = refl
+refusalAt-number-slot StoredSettle = refl
 refusalAt-number-slot (Crossed i) = refl
 refusalAt-number-slot Unreached = refl
 refusalAt-number-slot Full = refl
@@ -76,6 +80,8 @@ eleven-le-number WindowLength = omega arith
 eleven-le-number Bridges = omega arith
 eleven-le-number WindowCounts = omega arith
 eleven-le-number CoveredCounts = omega arith
+eleven-le-number SettleCount = omega arith
+eleven-le-number StoredSettle = omega arith
 eleven-le-number (Crossed i) = omega arith
 eleven-le-number Unreached = omega arith
 eleven-le-number Full = omega arith

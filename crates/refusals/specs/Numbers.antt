@@ -4,8 +4,8 @@ use Prim.Native.Nat.{ℕ}
 use Rattle.refusals.specs.declared.Refusal.{Refusal}
 use Rattle.refusals.specs.declared.Refusal.the-variants.{Size, End, Form, Slots, Distance, Records, Lent, Buffer}
 use Rattle.refusals.specs.declared.Refusal.the-variants.{Slot, FirstLength, OtherLength, WindowLength, Bridges}
-use Rattle.refusals.specs.declared.Refusal.the-variants.{WindowCounts, CoveredCounts, Crossed, Unreached, Full}
-use Rattle.refusals.specs.declared.Refusal.the-variants.{PagedSlots, GivenPlan}
+use Rattle.refusals.specs.declared.Refusal.the-variants.{WindowCounts, CoveredCounts, SettleCount, StoredSettle}
+use Rattle.refusals.specs.declared.Refusal.the-variants.{Crossed, Unreached, Full, PagedSlots, GivenPlan}
 
 abbrev pub number : Refusal → ℕ
 number Size = 11
@@ -23,6 +23,8 @@ number WindowLength = 23
 number Bridges = 24
 number WindowCounts = 25
 number CoveredCounts = 26
+number SettleCount = 27
+number StoredSettle = 28
 number (Crossed i) = 31
 number Unreached = 32
 number Full = 33
@@ -46,6 +48,8 @@ slot WindowLength = 0
 slot Bridges = 0
 slot WindowCounts = 0
 slot CoveredCounts = 0
+slot SettleCount = 0
+slot StoredSettle = 0
 slot (Crossed i) = i
 slot Unreached = 0
 slot Full = 0

@@ -3,8 +3,9 @@ ghost use mathlib.Core.Path.{_≡_};
 ghost use Rattle.refusals.specs.Numbers.{number as Numbers·number, slot as Numbers·slot};
 
 // Every refusal, by its number: of a file on the card (11 to 17, then 19), of the writer's buffer (18), of lengths and
-// settings (21 to 26), of slots (31, which carries the first slot whose lowest load is above its highest), of a step of
-// the watch (32, then 33), of the plans of a request as they are paged through (34, then 35).
+// settings (21 to 27), of settings that form 1 cannot hold (28), of slots (31, which carries the first slot whose
+// lowest load is above its highest), of a step of the watch (32, then 33), of the plans of a request as they are paged
+// through (34, then 35).
 pub enum Refusal {
     Size,
     End,
@@ -21,6 +22,8 @@ pub enum Refusal {
     Bridges,
     WindowCounts,
     CoveredCounts,
+    SettleCount,
+    StoredSettle,
     Crossed(usize),
     Unreached,
     Full,
@@ -54,6 +57,8 @@ impl Refusal {
             Refusal::Bridges => 24,
             Refusal::WindowCounts => 25,
             Refusal::CoveredCounts => 26,
+            Refusal::SettleCount => 27,
+            Refusal::StoredSettle => 28,
             Refusal::Crossed(_) => 31,
             Refusal::Unreached => 32,
             Refusal::Full => 33,

@@ -20,8 +20,9 @@ use Rattle.rule.specs.Ranges.{Class, allows}
 use Rattle.rule.specs.Rule.{countIf, windows, covered}
 use Rattle.rule.specs.declared.Shape.{Shape}
 use Rattle.settings.specs.declared.Settings.{Settings}
-use Rattle.requests.proofs.BestIsLeast.{least, least-le-covered}
-use Rattle.requests.specs.Best.{usingOne, saturatingSuc, best, bestInside, bestClosable}
+use Rattle.requests.proofs.BestIsLeast.{least, clearable-cons, least-le-covered}
+use Rattle.requests.specs.Best.{usingOne, saturatingSuc, clearable, best, bestInside, bestFrom, bestAfter}
+use Rattle.requests.specs.Best.{bestClosable}
 use Rattle.requests.specs.Drawing.{closedMark, nextMark, leftOf, drawnFrom}
 use Rattle.requests.specs.Solution.{sentinel, completed, drawnPlan, FitsAt}
 
@@ -45,7 +46,7 @@ leftOf-le false n = omega arith
 
 -- the states that a mark leads to, 0 standing for the start too
 data After : (m : ℕ) → State → Type 0 where
-  outside : After 0 (out 0)
+  outside : {q : ℕ} → After 0 (out q)
   first-slot : {r b : ℕ} → After 1 (on true r b)
   over-slot : {r b : ℕ} → After 2 (on true r b)
   bridge : {r b : ℕ} → After 3 (on false r b)
@@ -63,7 +64,7 @@ module _ (shape : Shape) where
   -- a window that may not close, or may not before slots that need to cover more than c
   abbrev Stays : Bool → List Class → (w c : ℕ) → Type 0
   Stays closes cs w c =
-      closes ≡ true → (ks : List ℕ) → PlanBy allows shape (out 0) cs ks → windows ks ≤ w → c < covered ks
+      closes ≡ true → (ks : List ℕ) → PlanBy allows shape (out (shape .settle)) cs ks → windows ks ≤ w → c < covered ks
 
   no-slots : {st : State} {w c : ℕ} → PlanWithin st [] w c [] → FirstFrom st [] w c []
   no-slots p = record { holds = p; first = λ ks q. inl (by (q .plan)) }
@@ -75,17 +76,18 @@ module _ (shape : Shape) where
   -- One slot more in front: with its mark, the first plan of the later slots is the first of all. Another plan ks is
   -- taken by its first constructor.
   module _ (x : Class) (cs : List Class) (w c : ℕ) where
-    skip-before : {ms ks : List ℕ} → FirstFrom (out 0) cs w c ms → PlanBy allows shape (out 0) (x ∷ cs) ks →
-        windows ks ≤ w → covered ks ≤ c → (0 ∷ ms ≡ ks) ⊎ (0 ∷ ms ≺ ks)
+    skip-before : {q : ℕ} {ms ks : List ℕ} → FirstFrom (out (q - 1)) cs w c ms →
+        PlanBy allows shape (out q) (x ∷ cs) ks → windows ks ≤ w → covered ks ≤ c → (0 ∷ ms ≡ ks) ⊎ (0 ∷ ms ≺ ks)
     unfolding windows covered countIf
     skip-before f (skip m p) few short = level-or-same 0 (f .first _ (record { plan = p; few = few; short = short }))
     skip-before f (opens m p) few short = inr (smaller {m = 0} {k = 1} (omega arith))
 
-    skipped : {ms : List ℕ} → allows x 0 ≡ true → FirstFrom (out 0) cs w c ms → FirstFrom (out 0) (x ∷ cs) w c (0 ∷ ms)
+    skipped : (q : ℕ) {ms : List ℕ} → allows x 0 ≡ true → FirstFrom (out (q - 1)) cs w c ms →
+        FirstFrom (out q) (x ∷ cs) w c (0 ∷ ms)
     unfolding windows covered countIf
-    skipped a f =
+    skipped q a f =
         record {
-          holds = record { plan = skip a (f .holds .plan); few = f .holds .few; short = f .holds .short };
+          holds = record { plan = skip {q = q} a (f .holds .plan); few = f .holds .few; short = f .holds .short };
           first = λ ks p. skip-before f (p .plan) (p .few) (p .short);
         }
 
@@ -111,8 +113,8 @@ module _ (shape : Shape) where
         }
 
     -- what begins outside a window comes before what continues one
-    close-before : {r b : ℕ} {ms ks : List ℕ} → FirstFrom (out 0) (x ∷ cs) w c ms →
-        PlanBy allows shape (out 0) (x ∷ cs) ms → PlanBy allows shape (on true r b) (x ∷ cs) ks →
+    close-before : {r b q : ℕ} {ms ks : List ℕ} → FirstFrom (out (shape .settle)) (x ∷ cs) w c ms →
+        PlanBy allows shape (out q) (x ∷ cs) ms → PlanBy allows shape (on true r b) (x ∷ cs) ks →
         windows ks ≤ w → covered ks ≤ c → (ms ≡ ks) ⊎ (ms ≺ ks)
     close-before f m (close p) few short = f .first _ (record { plan = p; few = few; short = short })
     close-before f (skip m p) (more o q) few short = inr (smaller {m = 0} {k = 2} (omega arith))
@@ -120,7 +122,8 @@ module _ (shape : Shape) where
     close-before f (opens m p) (more o q) few short = inr (smaller {m = 1} {k = 2} (omega arith))
     close-before f (opens m p) (bridges o q) few short = inr (smaller {m = 1} {k = 3} (omega arith))
 
-    closed : {r b : ℕ} {ms : List ℕ} → FirstFrom (out 0) (x ∷ cs) w c ms → FirstFrom (on true r b) (x ∷ cs) w c ms
+    closed : {r b : ℕ} {ms : List ℕ} → FirstFrom (out (shape .settle)) (x ∷ cs) w c ms →
+        FirstFrom (on true r b) (x ∷ cs) w c ms
     closed f =
         record {
           holds = record { plan = close (f .holds .plan); few = f .holds .few; short = f .holds .short };
@@ -199,21 +202,22 @@ module _ (T : ℕ) (shape : Shape) where
       FirstFrom shape st cs w c (drawnFrom T shape cs [] m w c)
 
   module _ (x : Class) (cs : List Class) (later : Draws cs) where
-    draws-outside : (w c : ℕ) → best T shape (x ∷ cs) w ≤ c → c < T →
-        FirstFrom shape (out 0) (x ∷ cs) w c (fromMark cs (cond (allows x 0) 0 1) w c)
-    unfolding best
-    draws-outside w c e below = by (allows x 0) refl w c e below
+    draws-outside : (q w c : ℕ) → bestFrom T shape q (x ∷ cs) w ≤ c → c < T →
+        FirstFrom shape (out q) (x ∷ cs) w c (fromMark cs (cond (allows x 0) 0 1) w c)
+    unfolding best clearable
+    draws-outside q w c e below = by (allows x 0) refl q w c e below
       where
-        by : (free : Bool) → allows x 0 ≡ free → (w c : ℕ) →
-            cond free (best T shape cs w)
-            (saturatingSuc T (usingOne T w λ w. bestClosable T shape cs (shape .len - 1) (shape .h) w)) ≤ c → c < T →
-            FirstFrom shape (out 0) (x ∷ cs) w c (fromMark cs (cond free 0 1) w c)
-        by true a w c e below = skipped shape x cs w c a (later _ _ outside w c e below)
-        by false a zero c e below = absurd (omega arith)
-        by false a (suc w) zero e below = absurd (omega arith)
-        by false a (suc w) (suc c) e below =
+        by : (free : Bool) → allows x 0 ≡ free → (q w c : ℕ) → bestFrom T shape q (x ∷ cs) w ≤ c → c < T →
+            FirstFrom shape (out q) (x ∷ cs) w c (fromMark cs (cond free 0 1) w c)
+        by true a q w c e below =
+            skipped shape x cs w c q a (later _ _ outside w c (rw (clearable-cons q x cs a, a) at e) below)
+        by false a (suc q) w c e below = absurd (omega (arith, rw a at e))
+        by false a zero zero c e below = absurd (omega (arith, rw a at e))
+        by false a zero (suc w) zero e below = absurd (omega (arith, rw a at e))
+        by false a zero (suc w) (suc c) e below =
+            let needed = rw a at e in
             rw (suc-sub-one w, suc-sub-one c)
-            (opened shape x cs w c a (later _ _ first-slot w c (omega arith) (omega arith)))
+            (opened shape x cs w c a (later _ _ first-slot w c (omega (arith, needed)) (omega arith)))
 
     draws-inside : (closes : Bool) (r b w c : ℕ) → Stays shape closes (x ∷ cs) w c →
         bestInside T shape (x ∷ cs) r b w ≤ c → c < T →
@@ -239,24 +243,24 @@ module _ (T : ℕ) (shape : Shape) where
     -- after an over slot the window closes if it can
     draws-closable : (m r b w c : ℕ) → eqb m 0 ≡ false → bestClosable T shape (x ∷ cs) r b w ≤ c → c < T →
         FirstFrom shape (on true r b) (x ∷ cs) w c
-        (fromMark cs (nextMark (cond (ltb c (best T shape (x ∷ cs) w)) m 0) x) w c)
-    draws-closable m r b w c in-window e below = by (ltb c (best T shape (x ∷ cs) w)) refl
+        (fromMark cs (nextMark (cond (ltb c (bestAfter T shape (x ∷ cs) w)) m 0) x) w c)
+    draws-closable m r b w c in-window e below = by (ltb c (bestAfter T shape (x ∷ cs) w)) refl
       where
-        by : (stays : Bool) → ltb c (best T shape (x ∷ cs) w) ≡ stays →
+        by : (stays : Bool) → ltb c (bestAfter T shape (x ∷ cs) w) ≡ stays →
             FirstFrom shape (on true r b) (x ∷ cs) w c (fromMark cs (nextMark (cond stays m 0) x) w c)
         by true s =
-            let dear : c < best T shape (x ∷ cs) w = ltb-true _ _ s in
+            let dear : c < bestAfter T shape (x ∷ cs) w = ltb-true _ _ s in
             rw in-window
             (draws-inside true r b w c (λ _ ks p few. omega (arith, dear, least-le-covered T shape w p few))
             (omega (arith, dear, e)) below)
         by false s =
-            let enough : best T shape (x ∷ cs) w ≤ c = ltb-false _ _ s in
-            closed shape x cs w c (draws-outside w c enough below)
+            let enough : bestAfter T shape (x ∷ cs) w ≤ c = ltb-false _ _ s in
+            closed shape x cs w c (draws-outside (shape .settle) w c enough below)
 
     draws-more : Draws (x ∷ cs)
     unfolding drawnFrom
     draws-more m st outside w c e below =
-        rw (closed-outside c (best T shape (x ∷ cs) w)) (draws-outside w c e below)
+        rw (closed-outside c (bestAfter T shape (x ∷ cs) w)) (draws-outside _ w c e below)
     draws-more m st first-slot w c e below = draws-closable 1 _ _ w c refl e below
     draws-more m st over-slot w c e below = draws-closable 2 _ _ w c refl e below
     draws-more m st bridge w c e below = draws-inside false _ _ w c (λ closes. absurd (false≢true closes)) e below
@@ -273,18 +277,25 @@ module _ (T : ℕ) (shape : Shape) where
 
   -- the state after a slot with mark f
   abbrev next : State → (f : ℕ) → State
-  next = afterMark 0 (shape .len - 1) (shape .h)
+  next = afterMark (shape .settle) (shape .len - 1) (shape .h)
+
+  after-outside : {q f : ℕ} {x : Class} {cs : List Class} {ms : List ℕ} →
+      PlanBy allows shape (out q) (x ∷ cs) (f ∷ ms) → After f (next (out q) f)
+  after-outside (skip a p) = outside
+  after-outside (opens a p) = first-slot
+
+  after-closed : (r b : ℕ) {q f : ℕ} {x : Class} {cs : List Class} {ms : List ℕ} →
+      PlanBy allows shape (out q) (x ∷ cs) (f ∷ ms) → After f (next (on true r b) f)
+  after-closed r b (skip a p) = outside
+  after-closed r b (opens a p) = first-slot
 
   after-mark : {m f : ℕ} {st : State} {x : Class} {cs : List Class} {ms : List ℕ} → After m st →
       PlanBy allows shape st (x ∷ cs) (f ∷ ms) → After f (next st f)
-  after-mark outside (skip a p) = outside
-  after-mark outside (opens a p) = first-slot
-  after-mark first-slot (close (skip a p)) = outside
-  after-mark first-slot (close (opens a p)) = first-slot
+  after-mark outside p = after-outside p
+  after-mark first-slot (close {r} {b} p) = after-closed r b p
   after-mark first-slot (more a p) = over-slot
   after-mark first-slot (bridges a p) = bridge
-  after-mark over-slot (close (skip a p)) = outside
-  after-mark over-slot (close (opens a p)) = first-slot
+  after-mark over-slot (close {r} {b} p) = after-closed r b p
   after-mark over-slot (more a p) = over-slot
   after-mark over-slot (bridges a p) = bridge
   after-mark bridge (more a p) = over-slot

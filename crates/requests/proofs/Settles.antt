@@ -22,7 +22,8 @@ use Rattle.requests.proofs.Outcomes.{keeps→planned, keeps→no-plan, 
 use Rattle.requests.proofs.Outcomes.{plan→planned, least-windows}
 use Rattle.requests.proofs.Formed.{Formed, formed-iff, class-slots, chosen-slots, unlimited→fits, fits→unlimited}
 use Rattle.requests.proofs.SettledPlans.{settled-under, settled-over}
-use Rattle.requests.specs.Demand3.{LeastUnlimited, Settles, unlimited, CountsUnlimited, SettlesAnswer}
+use Rattle.requests.specs.Demand3.{LeastUnlimited, Settling, under, over, Settles, unlimited, CountsUnlimited}
+use Rattle.requests.specs.Demand3.{SettlesAnswer}
 use Rattle.requests.specs.Promise.{Outcome, Keeps}
 use Rattle.requests.specs.Request.{Request, ranges, at, paired, thresholdAt, PlanOf, UnlimitedPlanOf}
 use Rattle.requests.specs.Request.{Open, settledUnder, settledOver}
@@ -38,6 +39,7 @@ module _ (r : Request) (good : Formed r) where
           bridges = good .pass .bridges;
           windows = (omega arith, le-refl _);
           covered = good .pass .covered;
+          settle = good .pass .settle;
         };
         width = good .width;
         marked = good .marked;
@@ -110,6 +112,7 @@ module _ (r : Request) (good : Formed r) (i : ℕ) (slot : Open r i) where
           bridges = good .pass .bridges;
           windows = good .pass .windows;
           covered = omega (arith, good .pass .covered);
+          settle = good .pass .settle;
         });
         width = good .width ∙ n;
         marked = good .marked ∙ n;
@@ -121,18 +124,18 @@ module _ (r : Request) (good : Formed r) (i : ℕ) (slot : Open r i) where
   Step q =
       (ms : List ℕ) → UnlimitedPlanOf r ms → (ms′ : List ℕ) × UnlimitedPlanOf q ms′ × (windows ms′ ≤ suc (windows ms))
 
-  under-step : Step (settledUnder r i)
-  under-step ms p =
-      let (ms′, f) = settled-under (r .settings .shape) i (unlimited→fits r good p) in (
+  under-step : r .settings .shape .settle ≤ 1 → Step (settledUnder r i)
+  under-step one ms p =
+      let (ms′, f) = settled-under (r .settings .shape) i (unlimited→fits r good p) one in (
         ms′,
         fits→unlimited (settledUnder r i) under-formed (suc (windows ms))
             (rw (replaced-class (ranges r) i lo k under-ranges k under-class) f),
         f .few,
       )
 
-  over-step : Step (settledOver r i)
-  over-step ms p =
-      let (ms′, f) = settled-over (r .settings .shape) i (unlimited→fits r good p) in (
+  over-step : r .settings .shape .settle ≡ 0 → Step (settledOver r i)
+  over-step none ms p =
+      let (ms′, f) = settled-over (r .settings .shape) i (unlimited→fits r good p) none in (
         ms′,
         fits→unlimited (settledOver r i) over-formed (suc (windows ms)) (record {
           in-rule = rw (replaced-class (ranges r) i (sucℤ k) hi over-ranges k over-class) (f .in-rule);
@@ -172,21 +175,14 @@ module _ (r : Request) (good : Formed r) (i : ℕ) (slot : Open r i) where
               );
         }
 
-  pub settling-under : Settles r (settledUnder r i)
-  settling-under = settles (settledUnder r i) under-formed under-step
+  pub settling : {q : Request} → Settling r i q → Settles r q
+  settling (under one) = settles (settledUnder r i) under-formed (under-step one)
+  settling (over none) = settles (settledOver r i) over-formed (over-step none)
 
-  pub settling-over : Settles r (settledOver r i)
-  settling-over = settles (settledOver r i) over-formed over-step
-
-  pub settling-answers-under : (before after : Outcome) → Keeps (unlimited r) before →
-      Keeps (unlimited (settledUnder r i)) after →
-      SettlesAnswer before after
-  settling-answers-under = settles-answer (settledUnder r i) under-formed under-step
-
-  pub settling-answers-over : (before after : Outcome) → Keeps (unlimited r) before →
-      Keeps (unlimited (settledOver r i)) after →
-      SettlesAnswer before after
-  settling-answers-over = settles-answer (settledOver r i) over-formed over-step
+  pub settling-answers : {q : Request} → Settling r i q → (before after : Outcome) → Keeps (unlimited r) before →
+      Keeps (unlimited q) after → SettlesAnswer before after
+  settling-answers (under one) = settles-answer (settledUnder r i) under-formed (under-step one)
+  settling-answers (over none) = settles-answer (settledOver r i) over-formed (over-step none)
 
 pub counting : (r : Request) → Formed r → (o : Outcome) → Keeps (unlimited r) o → CountsUnlimited r o
 counting r good o keeps =

@@ -1,11 +1,14 @@
 -- Least covered counts, by recursion on the slots. The functions of the crate `least` promise to give them; the
--- filter's promise does not rest on them. Two theorems say what they are: `best-le-covered` and `best-met` in
--- proofs/BestIsLeast.antt.
+-- filter's promise does not rest on them. Two theorems say what they are: `bestFrom-le-covered` and `bestFrom-met` in
+-- proofs/BestIsLeast.antt, which of slots that owe nothing are `best-le-covered` and `best-met`.
 --
 -- A slot is given by its class. A len of 0 counts as 1: a window has a first slot and at most len - 1 more, with at
 -- most h bridges. T stands for "no plan": counts are capped at T.
+--
+-- Leaving a slot uncovered costs nothing, so that the uncovered slots owed after a window only keep it from closing
+-- where one of them must be over: no count but `bestFrom` knows of them.
 use Prim.Native.Nat.{ℕ, zero, suc, _-_, _≤_, min}
-use mathlib.Core.Bool.{true, cond}
+use mathlib.Core.Bool.{Bool, true, cond, _&&_}
 use mathlib.Core.List.{List, [], _∷_}
 use mathlib.Core.Path.{_≡_}
 use lib.Dec.{leb}
@@ -28,6 +31,16 @@ usingOne T (suc n) f = f n
 abbrev pub saturatingSuc : (T c : ℕ) → ℕ
 saturatingSuc T c = min T (suc c)
 
+-- the first s slots, as far as there are so many, can be left uncovered
+unfoldable pub clearable : (s : ℕ) → List Class → Bool
+clearable zero cs = true
+clearable (suc s) [] = true
+clearable (suc s) (c ∷ cs) = allows c 0 && clearable s cs
+
+-- the count n of these slots, where s uncovered slots are owed first
+abbrev pub owing : (T s : ℕ) → List Class → (n : ℕ) → ℕ
+owing T s cs n = cond (clearable s cs) n T
+
 module _ (T : ℕ) (shape : Shape) where
   -- `best`: the least covered count with at most w windows. A slot that may be uncovered is left uncovered; any other
   -- opens a window.
@@ -38,18 +51,23 @@ module _ (T : ℕ) (shape : Shape) where
     best [] w = 0
     best (c ∷ cs) w =
         cond (allows c 0) (best cs w)
-        (saturatingSuc T (usingOne T w λ w. min (best cs w) (bestInside cs (shape .len - 1) (shape .h) w)))
+        (saturatingSuc T (usingOne T w λ w.
+        min (owing T (shape .settle) cs (best cs w)) (bestInside cs (shape .len - 1) (shape .h) w)))
 
     pub bestInside : List Class → (r b w : ℕ) → ℕ
     bestInside [] r b w = T
     bestInside (c ∷ cs) r b w =
         saturatingSuc T
         (usingOne T r λ r.
-        cond (allows c 2) (min (best cs w) (bestInside cs r b w)) (usingOne T b λ b. bestInside cs r b w))
+        cond (allows c 2) (min (owing T (shape .settle) cs (best cs w)) (bestInside cs r b w))
+        (usingOne T b λ b. bestInside cs r b w))
 
-  -- The same after a window that has closed. It equals `best`, which a row holds, but is a definition of its own.
+  -- the same outside a window, where q uncovered slots are owed, and after a window that has closed
+  abbrev pub bestFrom : (q : ℕ) → List Class → (w : ℕ) → ℕ
+  bestFrom q cs w = owing T q cs (best cs w)
+
   abbrev pub bestAfter : List Class → (w : ℕ) → ℕ
-  bestAfter cs w = best cs w
+  bestAfter cs w = bestFrom (shape .settle) cs w
 
   -- the same after an over slot of a window, where the window closes or continues
   abbrev pub bestClosable : List Class → (r b w : ℕ) → ℕ

@@ -1,8 +1,10 @@
 -- The starred cases of document 01 ("Station plans worked by hand"), each with what the filter has to hand back: one
--- list, and the claim that every outcome in it keeps the promise (proved in proofs/Cases.antt). After the list, two
--- requests of which the looser has the larger thrift.
+-- list, and the claim that every outcome in it keeps the promise (proved in proofs/Cases.antt). They are stated with
+-- settle 0 (document 02, T-06). After the list, two requests of which the looser has the larger thrift, and two that
+-- lose their plans where a slot is settled.
 use Prim.Native.Nat.{ℕ}
 use mathlib.Core.List.{List, [], _∷_, map}
+use mathlib.Core.Path.{_≡_}
 use lib.IntN.{ℤ, pos, negsuc}
 use lib.ListN.{length, replicate}
 use Rattle.settings.specs.declared.CountRange.{CountRange}
@@ -11,7 +13,7 @@ use Rattle.refusals.specs.Answer.{gives}
 use Rattle.rule.specs.Rule.{shaped}
 use Rattle.requests.specs.Demand3.{Looser}
 use Rattle.requests.specs.Promise.{no-plan, planned, Outcome, Keeps}
-use Rattle.requests.specs.Request.{Request, Thrift}
+use Rattle.requests.specs.Request.{Request, Thrift, Open, settledUnder, settledOver}
 use Rattle.requests.specs.declared.PlanCounts.{PlanCounts}
 
 pub record Case : Type 0 where
@@ -28,6 +30,15 @@ settings k len h windows covered = record { k = k; shape = shaped len h; windows
 -- settings with k = 0 and h = 0
 abbrev plainSettings : (len : ℕ) (windows covered : CountRange) → Settings
 plainSettings len windows covered = settings (pos 0) len 0 windows covered
+
+abbrev atSettle : (settle : ℕ) → Settings → Settings
+atSettle settle s =
+    record {
+      k = s .k;
+      shape = record { len = s .shape .len; h = s .shape .h; settle = settle };
+      windows = s .windows;
+      covered = s .covered;
+    }
 
 abbrev pub loads : List ℕ → List ℤ
 loads = map pos
@@ -127,6 +138,8 @@ cases =
     (0 ‥ 2) 0 (0 ∷ 0 ∷ [])
     -- J
     ∷ uncut (plainSettings 3 (0 ‥ 7) (0 ‥ 7)) highestD highestD (3 ‥ 7) (7 ‥ 7) 7 (1 ∷ 1 ∷ 1 ∷ 1 ∷ 1 ∷ 1 ∷ 1 ∷ [])
+    -- J at settle 1 (document 02, T-06)
+    ∷ noPlan (atSettle 1 (plainSettings 3 (0 ‥ 7) (0 ‥ 7))) highestD highestD
     -- loads 5, 1, 5 need one window at k = 0 and two at k = 1 ("Plausible programs that are wrong")
     ∷ uncut (plainSettings 3 (0 ‥ 3) (0 ‥ 3)) loads515 loads515 (1 ‥ 3) (3 ‥ 3) 3 (1 ∷ 1 ∷ 1 ∷ [])
     ∷ uncut (settings (pos 1) 3 0 (0 ‥ 3) (0 ‥ 3)) loads515 loads515 (2 ‥ 3) (2 ‥ 3) 2 (1 ∷ 0 ∷ 1 ∷ [])
@@ -156,3 +169,34 @@ pub record ThriftRises : Type 0 where
   pub looser : Looser (middleOpen .request) (middleUnder .request)
   pub tight : Thrift (middleUnder .request) 2
   pub loose : Thrift (middleOpen .request) 3
+
+-- Settling may cost the plan beyond the settle counts of `Settling` (document 02, T-06), with the window range 0 to n.
+-- Over at settle 1: an over slot and an open one, with len 1. The open slot settled over, the two windows would touch.
+abbrev oneSlotLong : Settings
+oneSlotLong = atSettle 1 (plainSettings 1 (0 ‥ 2) (0 ‥ 2))
+
+unfoldable pub besideOpen : Case
+besideOpen =
+    cut oneSlotLong (loads (1 ∷ 0 ∷ [])) (loads (1 ∷ 1 ∷ [])) (1 ‥ 2) (1 ‥ 2) 1
+    (loads (1 ∷ 0 ∷ [])) (loads (1 ∷ 0 ∷ [])) (1 ∷ 0 ∷ [])
+
+unfoldable pub besideOver : Case
+besideOver = noPlan oneSlotLong (loads (1 ∷ 1 ∷ [])) (loads (1 ∷ 1 ∷ []))
+
+-- Under at settle 2: an open slot between over slots, with len 3. Settled under, it would be the one slot between
+-- windows.
+abbrev threeSlotsLong : Settings
+threeSlotsLong = atSettle 2 (plainSettings 3 (0 ‥ 3) (0 ‥ 3))
+
+unfoldable pub betweenOpen : Case
+betweenOpen = cut threeSlotsLong loads101 loads111 (1 ‥ 3) (3 ‥ 3) 3 loads111 loads111 (1 ∷ 2 ∷ 2 ∷ [])
+
+unfoldable pub betweenUnder : Case
+betweenUnder = noPlan threeSlotsLong loads101 loads101
+
+pub record SettlingFails : Type 0 where
+  pub kept : Kept (besideOpen ∷ besideOver ∷ betweenOpen ∷ betweenUnder ∷ [])
+  pub beside-open : Open (besideOpen .request) 1
+  pub over : settledOver (besideOpen .request) 1 ≡ besideOver .request
+  pub between-open : Open (betweenOpen .request) 1
+  pub under : settledUnder (betweenOpen .request) 1 ≡ betweenUnder .request

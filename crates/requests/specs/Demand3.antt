@@ -19,7 +19,8 @@ pub record Wider (wide narrow : CountRange) : Type 0 where
   pub least : wide .least ≤ narrow .least
 
 -- Of two requests with equal threshold and slot count, l is looser than t: its load ranges contain the other's, its
--- window length, bridge allowance and both maximums are no smaller, and its minimums are no larger.
+-- window length, bridge allowance and both maximums are no smaller, and its settle count and its minimums are no
+-- larger.
 pub record Looser (l t : Request) : Type 0 where
   pub threshold : (i : ℕ) → thresholdAt l i ≡ thresholdAt t i
   pub as-many : slots l ≡ slots t
@@ -49,6 +50,12 @@ pub record LoosensAnswer (t : Request) (first second : Outcome) (n : PlanCounts)
 -- the least window count, with the window maximum ignored
 abbrev pub LeastUnlimited : Request → ℕ → Type 0
 LeastUnlimited r = LeastOver (UnlimitedPlanOf r) windows
+
+-- The request q is r with slot i settled, at a settle count at which that costs at most one more window: under at 0 and
+-- 1, over at 0 only (document 02, T-06). At the next larger ones it may cost the plan (`SettlingFails` in Cases.antt).
+pub data Settling (r : Request) (i : ℕ) : (q : Request) → Type 0 where
+  under : r .settings .shape .settle ≤ 1 → Settling r i (settledUnder r i)
+  over : r .settings .shape .settle ≡ 0 → Settling r i (settledOver r i)
 
 -- One slot of r is settled, which leaves it well formed. With the window maximum ignored: if a plan exists, one still
 -- exists, and the least window count is at most one higher.
@@ -97,10 +104,7 @@ pub record Demand3 : Type 0 where
   pub least-unlimited : (r : Request) → WellFormed r → (ms : List ℕ) → UnlimitedPlanOf r ms →
       (v : ℕ) × LeastUnlimited r v
   -- settling one open slot costs at most one more window
-  pub settling-under : (r : Request) → WellFormed r → (i : ℕ) → Open r i → Settles r (settledUnder r i)
-  pub settling-over : (r : Request) → WellFormed r → (i : ℕ) → Open r i → Settles r (settledOver r i)
+  pub settling : (r q : Request) → WellFormed r → (i : ℕ) → Open r i → Settling r i q → Settles r q
   pub counting : (r : Request) → WellFormed r → (o : Outcome) → Keeps (unlimited r) o → CountsUnlimited r o
-  pub settling-answers-under : (r : Request) → WellFormed r → (i : ℕ) → Open r i → (before after : Outcome) →
-      Keeps (unlimited r) before → Keeps (unlimited (settledUnder r i)) after → SettlesAnswer before after
-  pub settling-answers-over : (r : Request) → WellFormed r → (i : ℕ) → Open r i → (before after : Outcome) →
-      Keeps (unlimited r) before → Keeps (unlimited (settledOver r i)) after → SettlesAnswer before after
+  pub settling-answers : (r q : Request) → WellFormed r → (i : ℕ) → Open r i → Settling r i q →
+      (before after : Outcome) → Keeps (unlimited r) before → Keeps (unlimited q) after → SettlesAnswer before after

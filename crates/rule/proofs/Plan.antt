@@ -3,13 +3,13 @@
 --
 -- A slot may be of any type, given which marks it may carry (`May`), so that loads, ranges and classes all serve as
 -- slots. A window has a first slot and at most `laterSlots` more, with at most h bridges. Between two windows lie at
--- least `settle` uncovered slots: 0 in document 01, where windows may touch.
+-- least `settle` uncovered slots.
 use Prim.Native.Nat.{ℕ, zero, suc, _+_, _-_, _≤_, _<_}
 use native.Mathlib.Omega.{arith}
-use mathlib.Core.Bool.{Bool, true, false, cond, false≢true}
+use mathlib.Core.Bool.{Bool, true, false, cond, true≢false, false≢true}
 use mathlib.Core.List.{List, [], _∷_}
 use mathlib.Core.Path.{_≡_, refl, sym, _∙_, subst}
-use borrow.Author.Tests.{ne-eqb}
+use borrow.Author.Tests.{lt-ltb, ne-eqb}
 use lib.Dec.{eqb}
 use lib.ListN.{getD}
 use Rattle.rule.proofs.MarkKinds.{Kind, kind, uncovered, opening, later, bridge, above, follows-outside}
@@ -18,15 +18,15 @@ use Rattle.rule.proofs.LegalFrom.{WithinSoFar, Passes, LegalFrom, start
 use Rattle.rule.proofs.LegalFrom.{legalFrom-split, legalFrom-join, not-3→from-nil, keepsFrom-of-ordered}
 use Rattle.facts.proofs.Naturals.{suc-sub-one}
 use Rattle.facts.proofs.Tests.{and-true→both}
-use Rattle.rule.specs.ScanState.{slotsAfter, bridgesAfter, advanced}
-use Rattle.rule.specs.Rule.{agrees, follows, ordered, legalBy, nonzero}
+use Rattle.rule.specs.ScanState.{slotsAfter, bridgesAfter, owedAfter, tooSoon, advanced}
+use Rattle.rule.specs.Rule.{agrees, follows, ordered, clear, legalBy, nonzero}
 use Rattle.rule.specs.declared.ScanState.{ScanState}
 use Rattle.rule.specs.declared.Shape.{Shape}
 
 pub nonzero-same : (shape : Shape) → 1 ≤ shape .len → nonzero shape ≡ shape
 nonzero-same shape e =
     let f : suc (shape .len - 1) ≡ shape .len = omega arith in
-    λ i. record { len = f i; h = shape .h }
+    λ i. record { len = f i; h = shape .h; settle = shape .settle }
 
 -- outside a window, with the number of uncovered slots still owed before the next one; or in a window, with the slots
 -- and bridges left to it, and whether it may close here: it may after an over slot, and may not after a bridge
@@ -110,10 +110,10 @@ last-2 = over-slot {p = 2} (omega arith) (omega arith)
 
 -- the `State` that corresponds to a scan state
 data Stands (shape : Shape) : ScanState → State → Type 0 where
-  outside : {l b : ℕ} → l ≤ shape .len → b ≤ shape .h →
-      Stands shape (record { mark = 0; slots = l; bridges = b }) (out 0)
+  outside : {l b q : ℕ} → l ≤ shape .len → b ≤ shape .h →
+      Stands shape (record { mark = 0; slots = l; bridges = b; owed = q }) (out q)
   inside : {c : Bool} {p l b r g : ℕ} → LastMark c p → l + r ≡ shape .len → b + g ≡ shape .h →
-      Stands shape (record { mark = p; slots = l; bridges = b }) (on c r g)
+      Stands shape (record { mark = p; slots = l; bridges = b; owed = shape .settle }) (on c r g)
 
 stands→fits : {shape : Shape} {at : ScanState} {st : State} → Stands shape at st → WithinSoFar shape at
 stands→fits (outside l b) = omega arith
@@ -141,12 +141,21 @@ module _ {A : Type 0} (goes : A → ℕ → Bool) (shape : Shape) where
   abbrev Goes : ℕ → A → Type 0
   Goes m x = goes x m ≡ true
 
-  -- the family for document 01's rule, in which windows may touch
+  -- the family for the rule
   abbrev pub PlanBy : State → List A → List ℕ → Type 0
-  PlanBy st xs ms = Plan Goes 0 (shape .len - 1) (shape .h) st xs ms
+  PlanBy st xs ms = Plan Goes (shape .settle) (shape .len - 1) (shape .h) st xs ms
 
   abbrev StandsAt : ScanState → State → Type 0
   StandsAt at st = Stands (nonzero shape) at st
+
+  abbrev scanned : ScanState → (m : ℕ) → ScanState
+  scanned at m = advanced (shape .settle) at m
+
+  -- where a window opens nothing is owed
+  unowed : {xs : List A} {ms : List ℕ} (q : ℕ) → tooSoon q 1 ≡ false → PlanBy (out 0) xs ms → PlanBy (out q) xs ms
+  unfolding tooSoon
+  unowed zero e p = p
+  unowed (suc q) e p = absurd (true≢false (sym (lt-ltb 0 (suc q) (omega arith)) ∙ e))
 
   module _ {x : A} {xs : List A} {ms : List ℕ} where
     plan-over : {c : Bool} {r g : ℕ} (l : ℕ) → l + r ≡ nonzero shape .len → l + 1 ≤ nonzero shape .len → Goes 2 x →
@@ -165,16 +174,16 @@ module _ {A : Type 0} (goes : A → ℕ → Bool) (shape : Shape) where
     -- one slot more in front of the rest, which is a plan from the state after that slot
     plan-cons : {m : ℕ} {at : ScanState} {st : State} → Kind m → StandsAt at st →
         Passes (nonzero shape) at (goes x m) m →
-        ((st : State) → StandsAt (advanced at m) st → PlanBy st xs ms) → PlanBy st (x ∷ xs) (m ∷ ms)
-    unfolding follows slotsAfter bridgesAfter
-    plan-cons uncovered (outside l b) p f = skip (p .goes) (f _ (outside (omega arith) (omega arith)))
+        ((st : State) → StandsAt (scanned at m) st → PlanBy st xs ms) → PlanBy st (x ∷ xs) (m ∷ ms)
+    unfolding follows slotsAfter bridgesAfter owedAfter
+    plan-cons uncovered (outside {q = q} l b) p f = skip {q = q} (p .goes) (f _ (outside (omega arith) (omega arith)))
     plan-cons uncovered (inside (over-slot p₁ p₂) l b) p f =
-        close (skip (p .goes) (f _ (outside (omega arith) (omega arith))))
+        close (skip {q = shape .settle} (p .goes) (f _ (outside (omega arith) (omega arith))))
     plan-cons uncovered (inside a-bridge l b) p f = absurd (false≢true (p .follow))
     plan-cons opening (outside l b) p f =
-        opens (p .goes) (f _ (inside last-1 (omega arith) (omega arith)))
+        unowed _ (p .in-time) (opens (p .goes) (f _ (inside last-1 (omega arith) (omega arith))))
     plan-cons opening (inside (over-slot p₁ p₂) l b) p f =
-        close (opens (p .goes) (f _ (inside last-1 (omega arith) (omega arith))))
+        close (unowed _ (p .in-time) (opens (p .goes) (f _ (inside last-1 (omega arith) (omega arith)))))
     plan-cons opening (inside a-bridge l b) p f = absurd (false≢true (p .follow))
     plan-cons later (outside l b) p f = absurd (false≢true (p .follow))
     plan-cons later (inside c l b) p f =
@@ -185,12 +194,12 @@ module _ {A : Type 0} (goes : A → ℕ → Bool) (shape : Shape) where
     plan-cons {at = at} (above a) s p f = above-3-follows-none (at .mark) a (p .follow)
 
     from-cons : {at : ScanState} {st next : State} (m : ℕ) → StandsAt at st → Goes m x → true ≡ follows (at .mark) m →
-        StandsAt (advanced at m) next →
-        (StandsAt (advanced at m) next → LegalFrom goes (nonzero shape) (advanced at m) xs ms) →
+        tooSoon (at .owed) m ≡ false → StandsAt (scanned at m) next →
+        (StandsAt (scanned at m) next → LegalFrom goes (nonzero shape) (scanned at m) xs ms) →
         LegalFrom goes (nonzero shape) at (x ∷ xs) (m ∷ ms)
-    from-cons m s c f n o =
+    from-cons m s c f e n o =
         legalFrom-join goes (nonzero shape) _ ms x xs m (stands→fits s)
-        (record { goes = c; follow = sym f; fits = stands→fits n }) (o n)
+        (record { goes = c; follow = sym f; in-time = e; fits = stands→fits n }) (o n)
 
   from→plan : {at : ScanState} {st : State} (xs : List A) (ms : List ℕ) → StandsAt at st →
       LegalFrom goes (nonzero shape) at xs ms → PlanBy st xs ms
@@ -205,38 +214,51 @@ module _ {A : Type 0} (goes : A → ℕ → Bool) (shape : Shape) where
       plan-cons (kind m) s p (λ st n. from→plan xs ms n left)
 
   -- where a window closes, marks that are legal from the start are legal from here
-  from-closed : {p l b : ℕ} (xs : List A) (ms : List ℕ) → p ≤ 2 →
-      WithinSoFar (nonzero shape) (record { mark = p; slots = l; bridges = b }) →
-      LegalFrom goes (nonzero shape) start xs ms → LegalFrom goes (nonzero shape)
-      (record { mark = p; slots = l; bridges = b }) xs ms
-  from-closed xs ms p₂ f o =
+  from-closed : {p l b q : ℕ} (xs : List A) (ms : List ℕ) → p ≤ 2 →
+      WithinSoFar (nonzero shape) (record { mark = p; slots = l; bridges = b; owed = q }) →
+      LegalFrom goes (nonzero shape) (start q) xs ms → LegalFrom goes (nonzero shape)
+      (record { mark = p; slots = l; bridges = b; owed = q }) xs ms
+  from-closed {q = q} xs ms p₂ f o =
+      let (e, owed) = from→legal goes (nonzero shape) xs ms q o in
       record {
         agree = o .agree;
         order = ordered-after-over ms p₂ (o .order);
-        shape-kept = keepsFrom-of-ordered goes (nonzero shape) ms f (o .order) (o .shape-kept .kept);
+        shape-kept = keepsFrom-of-ordered goes (nonzero shape) ms f (o .order) owed (o .shape-kept .kept);
       }
 
   plan→from : {at : ScanState} {st : State} {xs : List A} {ms : List ℕ} → PlanBy st xs ms → StandsAt at st →
       LegalFrom goes (nonzero shape) at xs ms
-  unfolding slotsAfter bridgesAfter
+  unfolding slotsAfter bridgesAfter owedAfter tooSoon
   plan→from done (outside l b) = not-3→from-nil goes (nonzero shape) _ (omega arith) refl
   plan→from (skip c q) (outside l b) =
-      from-cons 0 (outside l b) c (follows-outside 0 0 (omega arith) (omega arith))
+      from-cons 0 (outside l b) c (follows-outside 0 0 (omega arith) (omega arith)) refl
       (outside (omega arith) (omega arith)) (λ n. plan→from q n)
   plan→from (opens c q) (outside l b) =
-      from-cons 1 (outside l b) c (follows-outside 0 1 (omega arith) (omega arith))
+      from-cons 1 (outside l b) c (follows-outside 0 1 (omega arith) (omega arith)) refl
       (inside last-1 (omega arith) (omega arith)) (λ n. plan→from q n)
   plan→from (close q) (inside (over-slot p₁ p₂) l b) =
       from-closed _ _ p₂ (omega arith) (plan→from q (outside (omega arith) (omega arith)))
   plan→from (more c q) (inside p l b) =
-      from-cons 2 (inside p l b) c (follows-last p (omega arith) (omega arith)) (inside last-2 (omega arith) b)
+      from-cons 2 (inside p l b) c (follows-last p (omega arith) (omega arith)) refl (inside last-2 (omega arith) b)
       (λ n. plan→from q n)
   plan→from (bridges c q) (inside p l b) =
-      from-cons 3 (inside p l b) c (follows-last p (omega arith) (omega arith))
+      from-cons 3 (inside p l b) c (follows-last p (omega arith) (omega arith)) refl
       (inside a-bridge (omega arith) (omega arith)) (λ n. plan→from q n)
 
+  -- the rule, from where q uncovered slots are owed, as they are after a window
+  pub legal→planFrom : (q : ℕ) (xs : List A) (ms : List ℕ) → legalBy goes (nonzero shape) xs ms ≡ true →
+      clear q ms ≡ true → PlanBy (out q) xs ms
+  legal→planFrom q xs ms e owed =
+      from→plan xs ms (outside (omega arith) (omega arith)) (legal→from goes (nonzero shape) xs ms q e owed)
+
+  pub planFrom→legal : (q : ℕ) (xs : List A) (ms : List ℕ) → PlanBy (out q) xs ms →
+      (legalBy goes (nonzero shape) xs ms ≡ true) × (clear q ms ≡ true)
+  planFrom→legal q xs ms p = from→legal goes (nonzero shape) xs ms q (plan→from p (outside (omega arith) (omega arith)))
+
+  -- at the start nothing is owed
   pub legal→plan : (xs : List A) (ms : List ℕ) → legalBy goes (nonzero shape) xs ms ≡ true → PlanBy (out 0) xs ms
-  legal→plan xs ms e = from→plan xs ms (outside (omega arith) (omega arith)) (legal→from goes (nonzero shape) xs ms e)
+  unfolding clear
+  legal→plan xs ms e = legal→planFrom 0 xs ms e refl
 
   pub plan→legal : (xs : List A) (ms : List ℕ) → PlanBy (out 0) xs ms → legalBy goes (nonzero shape) xs ms ≡ true
-  plan→legal xs ms p = from→legal goes (nonzero shape) xs ms (plan→from p (outside (omega arith) (omega arith)))
+  plan→legal xs ms p = planFrom→legal 0 xs ms p .0

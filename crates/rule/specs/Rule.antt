@@ -1,7 +1,7 @@
 -- The rule of plans, written from document 01. A plan is a list of marks, one byte per slot: 0 uncovered, 1 first slot
 -- of a window, 2 a later over slot of it, 3 a bridge ("A plan as marks"); a bridge, in document 01's term, is an under
 -- slot in a window. Loads and the threshold k are integers: every k is taken ("The rule, by source").
-use Prim.Native.Nat.{ℕ, suc, _-_, _≤_}
+use Prim.Native.Nat.{ℕ, zero, suc, _-_, _≤_}
 use mathlib.Core.Bool.{Bool, true, false, cond, not, _&&_, _||_}
 use mathlib.Core.List.{List, [], _∷_}
 use mathlib.Core.Path.{_≡_}
@@ -48,6 +48,17 @@ unfoldable pub rest : List ℕ → List ℕ
 rest [] = []
 rest (m ∷ ms) = cond (between 2 3 m) (m ∷ rest ms) []
 
+-- what comes after these marks: after a mark 1, all that comes after its window
+unfoldable pub beyond : List ℕ → List ℕ
+beyond [] = []
+beyond (m ∷ ms) = cond (between 2 3 m) (beyond ms) (m ∷ ms)
+
+-- the first s marks, as far as there are so many, are 0
+unfoldable pub clear : (s : ℕ) → List ℕ → Bool
+clear zero ms = true
+clear (suc s) [] = true
+clear (suc s) (m ∷ ms) = eqb m 0 && clear s ms
+
 -- how many of the marks pass a test
 unfoldable pub countIf : (ℕ → Bool) → List ℕ → ℕ
 countIf p [] = 0
@@ -58,12 +69,16 @@ abbrev pub bridges : List ℕ → ℕ
 bridges marks = countIf (λ m. eqb m 3) marks
 
 -- The window whose mark 1 stands right before the marks ms keeps its shape: it has at most len slots and holds at most
--- h bridges ("The rule, by source").
+-- h bridges ("The rule, by source"), and between it and the next lie at least settle uncovered slots (document 02,
+-- T-06). Where no window follows, none are owed.
 unfoldable pub keeps : Shape → (ms : List ℕ) → Bool
-keeps shape ms = leb (suc (length (rest ms))) (shape .len) && leb (bridges (rest ms)) (shape .h)
+keeps shape ms =
+    leb (suc (length (rest ms))) (shape .len)
+    && leb (bridges (rest ms)) (shape .h)
+    && clear (shape .settle) (beyond ms)
 
--- Each window that marks draw passes a test: a window is a mark 1 with the marks 2 and 3 that directly follow it, and the
--- test is given all that follows the mark 1.
+-- Each window that marks draw passes a test: a window is a mark 1 with the marks 2 and 3 that directly follow it, and
+-- the test is given all that follows the mark 1.
 unfoldable pub eachWindow : (List ℕ → Bool) → List ℕ → Bool
 eachWindow p [] = true
 eachWindow p (m ∷ ms) = cond (eqb m 1) (p ms) true && eachWindow p ms
@@ -81,18 +96,20 @@ carries k load m = goesWith (over k load) m
 abbrev pub legal : (k : ℤ) → Shape → List ℤ → List ℕ → Bool
 legal k shape loads marks = legalBy (carries k) shape loads marks
 
--- a shape from its two numbers
+-- document 01's shape, in which windows may touch
 abbrev pub shaped : (len h : ℕ) → Shape
-shaped len h = record { len = len; h = h }
+shaped len h = record { len = len; h = h; settle = 0 }
 
--- one shape is looser than another: its window length and its bridge allowance are no smaller ("Words of demand 3")
+-- one shape is looser than another: its window length and its bridge allowance are no smaller ("Words of demand 3"),
+-- and its settle count is no larger (document 02, T-06)
 pub record LooserShape (l t : Shape) : Type 0 where
   pub len : t .len ≤ l .len
   pub h : t .h ≤ l .h
+  pub settle : l .settle ≤ t .settle
 
 -- a shape in which a len of 0 counts as 1, for functions that do not check it
 abbrev pub nonzero : Shape → Shape
-nonzero shape = record { len = suc (shape .len - 1); h = shape .h }
+nonzero shape = record { len = suc (shape .len - 1); h = shape .h; settle = shape .settle }
 
 -- the window count of marks, and their covered count, bridges included ("The rule, by source")
 unfoldable pub windows : List ℕ → ℕ

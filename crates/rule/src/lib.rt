@@ -11,10 +11,12 @@ pub use codes::OVER;
 pub use codes::UNDER;
 pub use codes::class_of;
 
-// The shape of windows, in document 01's letters: the most slots of a window, and the most bridges in one.
+// The shape of windows, in document 01's letters: the most slots of a window, the most bridges in one, and the least
+// number of uncovered slots between one and the next.
 pub struct Shape {
     pub len: u16,
     pub h: u16,
+    pub settle: u16,
 }
 
 // A slot's load range, both ends included.
@@ -30,10 +32,11 @@ pub fn over(k: i32, load: i32) -> bool
     load > k
 }
 
-// The state of a scan of marks from the left: the last mark, 0 at the start, and the slots and bridges
-// so far of the window under way.
+// The state of a scan of marks from the left: the last mark, 0 at the start, the slots and bridges so far of the window
+// under way, and the uncovered slots owed before the next window may open.
 pub struct ScanState {
     pub mark: u8,
     pub slots: u16,
     pub bridges: u16,
+    pub owed: u16,
 }

@@ -10,9 +10,11 @@ use lib.Dec.{ltb}
 use Rattle.facts.proofs.Tests.{or-false→both, one-to-most}
 use Rattle.refusals.proofs.Table.{first-none-row, first-none-check}
 use Rattle.refusals.specs.Table.{row, first}
+use Rattle.rule.specs.Rule.{shaped}
 use Rattle.rule.specs.declared.Shape.{Shape}
-use Rattle.settings.specs.Refusals.{limit, wrongSlots, differs, wrongLength, wrongBridges, wrongCounts}
-use Rattle.settings.specs.Refusals.{lengthsRefusal, shapeRefusal, settingsRefusal, refusal}
+use Rattle.settings.specs.Refusals.{limit, maxSettle, wrongSlots, differs, wrongLength, wrongBridges}
+use Rattle.settings.specs.Refusals.{wrongCounts, wrongSettle, lengthsRefusal, shapeRefusal, settingsRefusal}
+use Rattle.settings.specs.Refusals.{refusal}
 use Rattle.settings.specs.declared.CountRange.{CountRange}
 use Rattle.settings.specs.declared.Settings.{Settings}
 
@@ -22,6 +24,7 @@ pub record Accepted (n : ℕ) (s : Settings) : Type 0 where
   pub bridges : wrongBridges (s .shape) ≡ false
   pub windows : (s .windows .least ≤ s .windows .most) × (s .windows .most ≤ n)
   pub covered : (s .covered .least ≤ s .covered .most) × (s .covered .most ≤ n)
+  pub settle : s .shape .settle ≤ maxSettle
 
 -- `differs` is false exactly when the other slice has n entries too
 pub differs-false : (n other : ℕ) → (differs n other ≡ false) ↔ (other ≡ n)
@@ -38,7 +41,7 @@ pub bridges-le : (shape : Shape) → wrongBridges shape ≡ false → shape .h +
 unfolding wrongBridges
 bridges-le shape e = by (shape .h) e
   where
-    by : (h : ℕ) → wrongBridges (record { len = shape .len; h = h }) ≡ false → h + min 2 (shape .len) ≤ shape .len
+    by : (h : ℕ) → wrongBridges (shaped (shape .len) h) ≡ false → h + min 2 (shape .len) ≤ shape .len
     by zero e = omega arith
     by (suc h) e = omega (arith, leb-false (shape .len) (suc h + 1) (rw (lt-ltb 0 (suc h) (omega arith)) at e))
 
@@ -56,26 +59,28 @@ wrongCounts-false range n = (to, from)
     from (low, high) = rw (le-ltb (range .most) (range .least) low, le-ltb n (range .most) high)
 
 refusal-none→accepted : (n : ℕ) (d : Bool) (s : Settings) → refusal n d s ≡ none → (d ≡ false) × Accepted n s
-unfolding refusal lengthsRefusal shapeRefusal settingsRefusal wrongSlots
+unfolding refusal lengthsRefusal shapeRefusal settingsRefusal wrongSlots wrongSettle
 refusal-none→accepted n d s e =
     let (by-lengths, e) = first-none-check _ _ e in
     let (slots, f) = first-none-row _ _ _ by-lengths in
     let (by-settings, _) = first-none-check _ _ e in
     let (by-shape, e) = first-none-check _ _ by-settings in
     let (length, g) = first-none-row _ _ _ by-shape in
-    let (windows, e) = first-none-row _ _ _ e in (
+    let (windows, e) = first-none-row _ _ _ e in
+    let (covered, e) = first-none-row _ _ _ e in (
       first-none-row _ _ _ f .0,
       record {
         slots = one-to-most n limit .0 slots;
         length = wrongLength-false (s .shape) n .0 length;
         bridges = first-none-row _ _ _ g .0;
         windows = wrongCounts-false (s .windows) n .0 windows;
-        covered = wrongCounts-false (s .covered) n .0 (first-none-row _ _ _ e .0);
+        covered = wrongCounts-false (s .covered) n .0 covered;
+        settle = ltb-false _ _ (first-none-row _ _ _ e .0);
       },
     )
 
 accepted→refusal-none : (n : ℕ) (d : Bool) (s : Settings) → (d ≡ false) × Accepted n s → refusal n d s ≡ none
-unfolding refusal lengthsRefusal shapeRefusal settingsRefusal first row wrongSlots
+unfolding refusal lengthsRefusal shapeRefusal settingsRefusal first row wrongSlots wrongSettle
 accepted→refusal-none n d s (same, p) =
     rw (
       one-to-most n limit .1 (p .slots),
@@ -84,6 +89,7 @@ accepted→refusal-none n d s (same, p) =
       p .bridges,
       wrongCounts-false (s .windows) n .1 (p .windows),
       wrongCounts-false (s .covered) n .1 (p .covered),
+      le-ltb maxSettle (s .shape .settle) (p .settle),
     )
 
 pub accepted-iff : {n : ℕ} {d : Bool} {s : Settings} → (refusal n d s ≡ none) ↔ ((d ≡ false) × Accepted n s)

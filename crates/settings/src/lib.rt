@@ -1,14 +1,18 @@
-// The settings of a request, and the refusals of lengths and settings, 21 to 26: their table is in specs/Refusals.antt.
+// The settings of a request, and the refusals of lengths and settings, 21 to 27: their table is in specs/Refusals.antt.
 ghost use mathlib.Core.Path.{_≡_};
 ghost use Rattle.refusals.specs.Answer.{meaning};
 ghost use Rattle.settings.specs.Refusals.{refusal, lengthsRefusal, shapeRefusal, settingsRefusal};
-ghost use Rattle.settings.specs.Refusals.{wrongSlots, differs, wrongLength, wrongBridges, wrongCounts};
+ghost use Rattle.settings.specs.Refusals.{wrongSlots, differs, wrongLength, wrongBridges};
+ghost use Rattle.settings.specs.Refusals.{wrongCounts, wrongSettle};
 use refusals::Checked;
 use refusals::Refusal;
 use rule::Shape;
 
 // The most slots of a plan.
 pub const LIMIT: usize = 64;
+
+// The largest settle count.
+pub const MAX_SETTLE: u16 = 8;
 
 // The number of places before, between and after that many slots.
 pub const PLACES: usize = LIMIT + 1;
@@ -52,7 +56,7 @@ pub fn check_lengths(n: usize, different: bool) -> Checked
     Checked::Passed
 }
 
-// Refusals 23 to 26, for n slots.
+// Refusals 23 to 27, for n slots.
 pub fn check_settings(settings: Settings, n: usize) -> Checked
     ensures { λ r. ⌜ meaning r ≡ settingsRefusal n settings ⌝ }
 {
@@ -65,6 +69,9 @@ pub fn check_settings(settings: Settings, n: usize) -> Checked
     }
     if wrong_counts(settings.covered, n) {
         return Checked::Refused(Refusal::CoveredCounts);
+    }
+    if wrong_settle(settings.shape.settle) {
+        return Checked::Refused(Refusal::SettleCount);
     }
     Checked::Passed
 }
@@ -112,4 +119,10 @@ fn wrong_counts(range: CountRange, n: usize) -> bool
     ensures { λ r. ⌜ r ≡ wrongCounts range n ⌝ }
 {
     range.least > range.most || range.most as usize > n
+}
+
+fn wrong_settle(settle: u16) -> bool
+    ensures { λ r. ⌜ r ≡ wrongSettle settle ⌝ }
+{
+    settle > MAX_SETTLE
 }

@@ -44,13 +44,14 @@ impl Watch {
         self.active()
     }
 
-    // The shape of its windows.
+    // The shape of its windows, which may touch.
     pub(crate) fn shape(self) -> Shape
         ensures { λ r. ⌜ r ≡ shaped (self .len) (self .h) ⌝ }
     {
         Shape {
             len: self.len,
             h: self.h,
+            settle: 0,
         }
     }
 

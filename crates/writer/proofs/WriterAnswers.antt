@@ -6,7 +6,7 @@ use mathlib.Core.List.{List, [], _∷_, _++_}
 use mathlib.Core.Logic.{_↔_}
 use mathlib.Core.Option.{none, some}
 use mathlib.Core.Path.{_≡_, refl, sym, ap, _∙_}
-use borrow.Author.Tests.{ltb-false, lt-ltb, le-ltb}
+use borrow.Author.Tests.{ltb-false, lt-ltb, le-ltb, eqb-true, eq-eqb, ne-eqb, not-false}
 use lib.IntN.{ℤ}
 use lib.ListN.{length, take, drop}
 use lib.Seq.{take-at}
@@ -15,13 +15,15 @@ use Rattle.refusals.proofs.Table.{first-none-check, first-none-row}
 use Rattle.refusals.specs.Answer.{refuses, gives, answer}
 use Rattle.refusals.specs.Table.{row, first}
 use Rattle.refusals.specs.declared.Refusal.{Refusal}
-use Rattle.refusals.specs.declared.Refusal.the-variants.{Buffer}
+use Rattle.refusals.specs.declared.Refusal.the-variants.{StoredSettle, Buffer}
 use Rattle.settings.specs.declared.Settings.{Settings}
 use Rattle.settings.proofs.Accepted.{differs-false}
 use Rattle.form1.proofs.ReadBack.{encode-length}
+use Rattle.form1.specs.Form1.{storedSettle}
 use Rattle.requests.proofs.ChosenIn.{paired-length}
 use Rattle.requests.specs.Request.{paired, requestOf, requestRefusal, filterRefusal, WellFormed}
-use Rattle.writer.specs.Writing.{fileOf, bufferTooShort, writerRefusal, writeAnswer, writing, StoresAccepted}
+use Rattle.writer.specs.Writing.{fileOf, otherSettle, bufferTooShort, writerRefusal, writeAnswer, writing}
+use Rattle.writer.specs.Writing.{StoresAccepted}
 
 -- without a mark slice the request is refused as with one of the right length
 same-refusal : (s : Settings) (los his : List ℤ) (ms : List ℕ) → length ms ≡ length los →
@@ -57,29 +59,48 @@ module _ (s : Settings) (los his : List ℤ) (buffer : List ℕ) where
   unfolding writing writeAnswer
   file-written e ends holds = rw (e, ends, holds) refl
 
-  -- the first refusal is one of the request, or the file does not fit
+  -- the first refusal is one of the request, or the settle count is another, or the file does not fit
   pub request-refused : {r : Refusal} → requestRefusal s los his false ≡ some r →
       writerRefusal s los his buffer ≡ some r
   unfolding writerRefusal first
   request-refused e = rw e refl
 
-  pub short-refused : requestRefusal s los his false ≡ none → length buffer < length (fileOf s los his) →
-      writerRefusal s los his buffer ≡ some Buffer
-  unfolding writerRefusal bufferTooShort first row
-  short-refused checked short = rw (checked, lt-ltb (length buffer) (length (fileOf s los his)) short) refl
+  pub settle-refused : requestRefusal s los his false ≡ none → (s .shape .settle ≡ storedSettle → ⊥) →
+      writerRefusal s los his buffer ≡ some StoredSettle
+  unfolding writerRefusal otherSettle first row
+  settle-refused checked other = rw (checked, ne-eqb (s .shape .settle) storedSettle other) refl
 
-  -- no refusal applies exactly when none of the request does and the file fits
+  pub short-refused : requestRefusal s los his false ≡ none → s .shape .settle ≡ storedSettle →
+      length buffer < length (fileOf s los his) → writerRefusal s los his buffer ≡ some Buffer
+  unfolding writerRefusal otherSettle bufferTooShort first row
+  short-refused checked settle short =
+      rw (
+        checked,
+        eq-eqb (s .shape .settle) storedSettle settle,
+        lt-ltb (length buffer) (length (fileOf s los his)) short,
+      )
+      refl
+
+  -- no refusal applies exactly when none of the request does, the settle count is that of the files, and the file fits
   pub passes→fits : writerRefusal s los his buffer ≡ none →
-      (requestRefusal s los his false ≡ none) × (length (fileOf s los his) ≤ length buffer)
-  unfolding writerRefusal bufferTooShort
+      (requestRefusal s los his false ≡ none) × (s .shape .settle ≡ storedSettle)
+      × (length (fileOf s los his) ≤ length buffer)
+  unfolding writerRefusal otherSettle bufferTooShort
   passes→fits e =
       let (checked, e) = first-none-check _ _ e in
-      (checked, ltb-false _ _ (first-none-row _ _ _ e .0))
+      let (settle, e) = first-none-row _ _ _ e in
+      (checked, eqb-true _ _ (not-false _ settle), ltb-false _ _ (first-none-row _ _ _ e .0))
 
-  pub fits→passes : requestRefusal s los his false ≡ none → length (fileOf s los his) ≤ length buffer →
-      writerRefusal s los his buffer ≡ none
-  unfolding writerRefusal bufferTooShort first row
-  fits→passes checked fits = rw (checked, le-ltb (length buffer) (length (fileOf s los his)) fits) refl
+  pub fits→passes : requestRefusal s los his false ≡ none → s .shape .settle ≡ storedSettle →
+      length (fileOf s los his) ≤ length buffer → writerRefusal s los his buffer ≡ none
+  unfolding writerRefusal otherSettle bufferTooShort first row
+  fits→passes checked settle fits =
+      rw (
+        checked,
+        eq-eqb (s .shape .settle) storedSettle settle,
+        le-ltb (length buffer) (length (fileOf s los his)) fits,
+      )
+      refl
 
   -- where a length is given, the request is accepted, and the first bytes of the buffer are its file
   pub stored→buffer : {n : ℕ} → writing s los his buffer .answer ≡ gives n →
@@ -88,12 +109,13 @@ module _ (s : Settings) (los his : List ℤ) (buffer : List ℕ) where
   stored→buffer e = rw e refl
 
   pub stored→file : {n : ℕ} → writing s los his buffer .answer ≡ gives n →
-      (requestRefusal s los his false ≡ none) × (n ≡ length (fileOf s los his))
+      (requestRefusal s los his false ≡ none) × (s .shape .settle ≡ storedSettle) × (n ≡ length (fileOf s los his))
       × (take n (writing s los his buffer .buffer) ≡ fileOf s los his)
   unfolding writing writeAnswer
   stored→file {n} e =
       let (pass, size) = answer-gives _ _ e in
-      (passes→fits pass .0, size, rw (stored→buffer e) (take-at (fileOf s los his) (drop n buffer) n (sym size)))
+      let (checked, settle, _) = passes→fits pass in
+      (checked, settle, size, rw (stored→buffer e) (take-at (fileOf s los his) (drop n buffer) n (sym size)))
 
   pub stored-fits : {n : ℕ} → writing s los his buffer .answer ≡ gives n → n ≤ length buffer
   unfolding writing writeAnswer
@@ -103,7 +125,7 @@ pub stores-accepted : StoresAccepted
 unfolding writing writeAnswer
 stores-accepted s los his buffer ms same = (
   (λ e. rw (same-refusal s los his ms same) (passes→fits s los his buffer (answer-gives _ _ e .0))),
-  λ (formed, fits).
+  λ (formed, settle, fits).
       let checked = sym (same-refusal s los his ms same) ∙ formed in
-      rw (fits→passes s los his buffer checked fits) refl,
+      rw (fits→passes s los his buffer checked settle fits) refl,
 )

@@ -9,6 +9,7 @@ ghost use Rattle.requests.specs.Request.{paired};
 ghost use Rattle.writer.specs.Writing.{outcomeOf, writing};
 use checks::check_request;
 use form1::RECORD;
+use form1::SETTLE;
 use form1::TRAILER;
 use form1::put_range;
 use form1::put_trailer;
@@ -32,6 +33,9 @@ pub fn write(settings: Settings, lowest: &[i32], highest: &[i32], out: &mut [u8]
     let checked = check_request(settings, lowest, highest, false);
     if let Checked::Refused(refusal) = checked {
         return Writing::Refused(refusal);
+    }
+    if settings.shape.settle != SETTLE {
+        return Writing::Refused(Refusal::StoredSettle);
     }
     let n = lowest.len();
     if out.len() < TRAILER + RECORD * n {

@@ -3,7 +3,10 @@
 -- so far (`RowsSoFar`).
 use Prim.Native.Nat.{_-_, _≤_}
 use native.Mathlib.Omega.{arith}
+use mathlib.Core.Path.{_≡_}
 use borrow.Author.Needs.{needs}
+use lib.ListN.{length}
+use Rattle.settings.specs.Refusals.{places}
 use Rattle.least.proofs.RowLoops.{RowsSoFar, rows-start, rows-step, rows-end}
 use Rattle.least.proofs.fill_rows.Statement.{statement}
 use Rattle.least.proofs.fill_rows.Tie as tie
@@ -21,10 +24,15 @@ loop-holds c = (omega arith, rows-start _ (c .before .args .classes .now) (omega
 next-row-requires : tie.Need-next-row-requires Inv-loop μ-loop
 next-row-requires c κs = search needs
 
+-- the row that is made has all places
+wide : (c : tie.After-next-row Inv-loop μ-loop) → length (c .next-row .result) ≡ places
+wide c = c .next-row .ensures _ (c .before .before .before .loop .inv .1 .row) .wide
+
 array-read-count : tie.Need-array-read-count Inv-loop μ-loop
-array-read-count c =
-    let row = c .next-row .ensures _ (c .before .before .before .loop .inv .1 .row) in
-    omega (arith, row .wide)
+array-read-count c = omega (arith, wide c)
+
+after-window-requires : tie.Need-after-window-requires Inv-loop μ-loop
+after-window-requires c κs = (c .before .before .before .before .before .before .pre, wide (c .before))
 
 thrift-after-requires : tie.Need-thrift-after-requires Inv-loop μ-loop
 thrift-after-requires c κs = search needs
@@ -43,9 +51,10 @@ loop-less c = search needs
 
 loop-again : tie.Need-loop-again Inv-loop μ-loop
 loop-again c =
-    let loop = c .before .before .before .before .before .loop in (
+    let loop = c .before .before .before .before .before .before .before .loop in (
       omega arith,
-      rows-step _ _ _ _ _ (loop .inv .1) (c .before .before .next-row .ensures) (c .above .ensures .0)
+      rows-step _ _ _ _ _ (loop .inv .1) (c .before .before .before .before .next-row .ensures)
+          (c .before .before .after-window .ensures) (c .above .ensures .0)
           (c .before .thrift-after .ensures),
     )
 
@@ -61,6 +70,7 @@ fill-rows-spec =
     loop-holds
     next-row-requires
     array-read-count
+    after-window-requires
     thrift-after-requires
     above-requires
     add-first

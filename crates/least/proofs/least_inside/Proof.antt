@@ -16,8 +16,8 @@ Inv-loop classes after from window₀ i₀ window i = Scan classes after from (w
 abbrev μ-loop : tie.MeasureT-loop
 μ-loop classes after from window₀ i₀ window i = length classes - i
 
-later-slots-requires : tie.Need-later-slots-requires Inv-loop μ-loop
-later-slots-requires c κs = search needs
+one-fewer-requires : tie.Need-one-fewer-requires Inv-loop μ-loop
+one-fewer-requires c κs = search needs
 
 loop-holds : tie.Need-loop-holds Inv-loop μ-loop
 loop-holds c = scan-start _ _ _ _ _ (omega arith)
@@ -53,13 +53,13 @@ returns : tie.Need-returns Inv-loop μ-loop
 returns c =
     let loop = c .before .before .before .loop in
     scan-end _ _ _ _ _ (loop .window) (loop .i) (loop .inv) (inr (omega (arith, ltb-false))) _
-    (c .before .before .before .before .later-slots .ensures)
+    (c .before .before .before .before .one-fewer .ensures)
 
 returns-2 : tie.Need-returns-2 Inv-loop μ-loop
 returns-2 c =
     let loop = c .before .loop in
     scan-end _ _ _ _ _ (loop .window) (loop .i) (loop .inv) (inl (omega arith)) _
-    (c .before .before .later-slots .ensures)
+    (c .before .before .one-fewer .ensures)
 
 pub least-inside-spec : {M : Type 1} → statement M
 least-inside-spec =
@@ -67,7 +67,7 @@ least-inside-spec =
     (tie.spec
     Inv-loop
     μ-loop
-    later-slots-requires
+    one-fewer-requires
     loop-holds
     shared-slice-read-extend
     add-extend

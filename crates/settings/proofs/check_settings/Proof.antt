@@ -21,6 +21,10 @@ returns-4 : tie.Need-returns-4
 unfolding Refusals.settingsRefusal
 returns-4 c = search rows depth 9
 
+returns-5 : tie.Need-returns-5
+unfolding Refusals.settingsRefusal
+returns-5 c = search rows depth 9
+
 pub check-settings-spec : {M : Type 1} → statement M
 check-settings-spec =
     tie.close
@@ -33,4 +37,6 @@ check-settings-spec =
     returns-2
     (λ c κs. search needs)
     returns-3
-    returns-4)
+    (λ c κs. search needs)
+    returns-4
+    returns-5)

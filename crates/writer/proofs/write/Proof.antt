@@ -13,8 +13,8 @@ use Rattle.form1.specs.Layout.{encode}
 use Rattle.requests.proofs.ChosenIn.{paired-length}
 use Rattle.requests.proofs.Formed.{passes→accepted}
 use Rattle.requests.specs.Request.{requestRefusal}
-use Rattle.writer.proofs.WriterAnswers.{file-length, nothing-written, request-refused, short-refused}
-use Rattle.writer.proofs.WriterAnswers.{fits→passes, file-written}
+use Rattle.writer.proofs.WriterAnswers.{file-length, nothing-written, request-refused, settle-refused}
+use Rattle.writer.proofs.WriterAnswers.{short-refused, fits→passes, file-written}
 use Rattle.writer.specs.Writing.{fileOf}
 use Rattle.writer.proofs.write.Statement.{statement}
 use Rattle.writer.proofs.write.Tie as tie
@@ -49,22 +49,32 @@ returns c =
     nothing-written _ _ _ _
     (request-refused _ _ _ _ (sym (met (point .before .before)) ∙ ap meaning (point .checked .given .1)))
 
-mul-if1 : tie.Need-mul-if1
-mul-if1 c = omega (arith, sizes c .1)
-
-add-if1 : tie.Need-add-if1
-add-if1 c = omega (arith, sizes c .1)
-
 returns-2 : tie.Need-returns-2
-returns-2 c =
-    let point = c .before in
-    nothing-written _ _ _ _ (short-refused _ _ _ _ (passed point) (omega (arith, size point)))
+returns-2 c = nothing-written _ _ _ _ (settle-refused _ _ _ _ (passed (c .before .before)) (c .if1 .taken))
+
+-- where the settle count has passed too
+abbrev entered : tie.Else1 → tie.After-enum-told
+entered c = c .before .before
+
+mul-if2 : tie.Need-mul-if2
+mul-if2 c = omega (arith, sizes (entered c) .1)
+
+add-if2 : tie.Need-add-if2
+add-if2 c = omega (arith, sizes (entered c) .1)
+
+returns-3 : tie.Need-returns-3
+returns-3 c =
+    let point = entered (c .before) in
+    nothing-written _ _ _ _ (short-refused _ _ _ _ (passed point) (c .before .if1 .left) (omega (arith, size point)))
 
 put-records-requires : tie.Need-put-records-requires
-put-records-requires c κs = sizes (c .before .before) .0
+put-records-requires c κs = sizes (entered (c .before .before)) .0
+
+abbrev settled : tie.After-slice-known2 → tie.Else1
+settled c = c .before .before .before .before .before
 
 abbrev checked : tie.After-slice-known2 → tie.After-enum-told
-checked c = c .before .before .before .before .before
+checked c = entered (settled c)
 
 cast-put-trailer : tie.Need-cast-put-trailer
 cast-put-trailer c = omega (arith, sizes (checked c) .1)
@@ -82,15 +92,16 @@ whole c =
 same-length : tie.Need-same-length
 same-length c = written-length (whole (c .before .before))
 
-returns-3 : tie.Need-returns-3
-returns-3 c =
+returns-4 : tie.Need-returns-4
+returns-4 c =
     let put = c .before .before in
     let point = checked (put .before .before) in
     let args = start point .args in
     let fits : length (fileOf (args .settings) (args .lowest .now) (args .highest .now)) ≤ length (args .out .now)
     = omega (arith, size point) in
     let (ends, holds) = written-whole (whole put) fits in
-    file-written _ _ _ _ (fits→passes _ _ _ _ (passed point) fits) ends holds
+    let settle = settled (put .before .before) .if1 .left in
+    file-written _ _ _ _ (fits→passes _ _ _ _ (passed point) settle fits) ends holds
 
 pub write-spec : {M : Type 1} → statement M
 write-spec =
@@ -100,11 +111,12 @@ write-spec =
     (λ c. search needs)
     returns
     (λ c. search needs)
-    mul-if1
-    add-if1
     returns-2
+    mul-if2
+    add-if2
+    returns-3
     put-records-requires
     cast-put-trailer
     (λ c κs. search needs)
     same-length
-    returns-3)
+    returns-4)

@@ -5,10 +5,10 @@ use Rattle.exhaustive.proofs.judged.compare.Statement.{statement}
 use Rattle.exhaustive.proofs.judged.compare.Tie as tie
 
 abbrev Inv-loop : tie.InvT-loop
-Inv-loop n number request loads step tally₀ string₀ tally string = (0 < step) × (step ≤ 216)
+Inv-loop n settle number request loads step tally₀ string₀ tally string = (0 < step) × (step ≤ 216)
 
 abbrev μ-loop : tie.MeasureT-loop
-μ-loop n number request loads step tally₀ string₀ tally string = 1296 - string
+μ-loop n settle number request loads step tally₀ string₀ tally string = 1296 - string
 
 sample-request-requires : tie.Need-sample-request-requires Inv-loop μ-loop
 sample-request-requires c κs = search needs

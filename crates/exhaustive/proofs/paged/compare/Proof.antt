@@ -6,11 +6,11 @@ use Rattle.exhaustive.proofs.paged.compare.Statement.{statement}
 use Rattle.exhaustive.proofs.paged.compare.Tie as tie
 
 abbrev Inv-loop : tie.InvT-loop
-Inv-loop n number request slots end step tally₀ given₀ length₀ string₀ tally given length string =
+Inv-loop n settle number request slots end step tally₀ given₀ length₀ string₀ tally given length string =
     (slots ≤ 8) × (end ≤ 65536) × (0 < step) × (step ≤ 16384) × (length ≤ 8)
 
 abbrev μ-loop : tie.MeasureT-loop
-μ-loop n number request slots end step tally₀ given₀ length₀ string₀ tally given length string = end - string
+μ-loop n settle number request slots end step tally₀ given₀ length₀ string₀ tally given length string = end - string
 
 sample-request-requires : tie.Need-sample-request-requires Inv-loop μ-loop
 sample-request-requires c κs = search needs

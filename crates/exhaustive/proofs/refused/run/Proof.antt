@@ -1,5 +1,5 @@
 -- `exhaustive::refused::run` is safe and ends: it goes up to the end by steps above 0.
-use Prim.Native.Nat.{_≤_, _-_, _<_}
+use Prim.Native.Nat.{_-_}
 use mathlib.Core.Path.{_≡_}
 use borrow.Author.Needs.{needs}
 use lib.ListN.{length}
@@ -7,13 +7,10 @@ use Rattle.exhaustive.proofs.refused.run.Statement.{statement}
 use Rattle.exhaustive.proofs.refused.run.Tie as tie
 
 abbrev Inv-loop : tie.InvT-loop
-Inv-loop operation end step met₀ calls₀ differ₀ i₀ met calls differ i = (0 < step) × (step ≤ 7) × (length met ≡ 36)
+Inv-loop operation every end met₀ calls₀ differ₀ i₀ met calls differ i = length met ≡ 36
 
 abbrev μ-loop : tie.MeasureT-loop
-μ-loop operation end step met₀ calls₀ differ₀ i₀ met calls differ i = end - i
-
-step-requires : tie.Need-step-requires Inv-loop μ-loop
-step-requires c κs = search needs
+μ-loop operation every end met₀ calls₀ differ₀ i₀ met calls differ i = end - i
 
 loop-holds : tie.Need-loop-holds Inv-loop μ-loop
 loop-holds c = search needs
@@ -54,6 +51,9 @@ agrees-requires c κs = search needs
 add-requires-3 : tie.Need-add-requires-3 Inv-loop μ-loop
 add-requires-3 c κs = search needs
 
+step-requires : tie.Need-step-requires Inv-loop μ-loop
+step-requires c κs = search needs
+
 add-i : tie.Need-add-i Inv-loop μ-loop
 add-i c = search needs
 
@@ -84,7 +84,6 @@ run-spec =
     (tie.spec
     Inv-loop
     μ-loop
-    step-requires
     loop-holds
     cast-call
     expected-requires
@@ -98,6 +97,7 @@ run-spec =
     add-requires-2
     agrees-requires
     add-requires-3
+    step-requires
     add-i
     loop-less
     loop-again

@@ -1,14 +1,14 @@
--- `exhaustive::refused::write_met` is safe and ends: it counts up to 11.
+-- `exhaustive::refused::write_met` is safe and ends: it counts up to 13.
 use Prim.Native.Nat.{_≤_, _-_}
 use borrow.Author.Needs.{needs}
 use Rattle.exhaustive.proofs.refused.write_met.Statement.{statement}
 use Rattle.exhaustive.proofs.refused.write_met.Tie as tie
 
 abbrev Inv-loop : tie.InvT-loop
-Inv-loop met i₀ i = i ≤ 11
+Inv-loop met i₀ i = i ≤ 13
 
 abbrev μ-loop : tie.MeasureT-loop
-μ-loop met i₀ i = 11 - i
+μ-loop met i₀ i = 13 - i
 
 slice-aggregate-write : tie.Need-slice-aggregate-write Inv-loop μ-loop
 slice-aggregate-write c = search needs

@@ -5,10 +5,10 @@ use Rattle.exhaustive.proofs.runs.every.Statement.{statement}
 use Rattle.exhaustive.proofs.runs.every.Tie as tie
 
 abbrev Inv-loop : tie.InvT-loop
-Inv-loop kind n end step tally₀ number₀ tally number = 0 < step
+Inv-loop kind n settle end step tally₀ number₀ tally number = 0 < step
 
 abbrev μ-loop : tie.MeasureT-loop
-μ-loop kind n end step tally₀ number₀ tally number = end - number
+μ-loop kind n settle end step tally₀ number₀ tally number = end - number
 
 pub every-spec : {M : Type 1} → statement M
 every-spec =

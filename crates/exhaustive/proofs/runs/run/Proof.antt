@@ -5,10 +5,10 @@ use Rattle.exhaustive.proofs.runs.run.Statement.{statement}
 use Rattle.exhaustive.proofs.runs.run.Tie as tie
 
 abbrev Inv-loop : tie.InvT-loop
-Inv-loop kind first end tally₀ n₀ tally n = end ≤ 9
+Inv-loop kind settle first end tally₀ n₀ tally n = end ≤ 9
 
 abbrev μ-loop : tie.MeasureT-loop
-μ-loop kind first end tally₀ n₀ tally n = end - n
+μ-loop kind settle first end tally₀ n₀ tally n = end - n
 
 loop-holds : tie.Need-loop-holds Inv-loop μ-loop
 loop-holds c = search needs

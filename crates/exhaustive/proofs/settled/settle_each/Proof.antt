@@ -1,20 +1,17 @@
--- `exhaustive::settled::settle_each` is safe and ends: it counts up to the number of settlings.
+-- `exhaustive::settled::settle_each` is safe and ends: it counts up to n.
 use Prim.Native.Nat.{_≤_, _-_}
 use borrow.Author.Needs.{needs}
 use Rattle.exhaustive.proofs.settled.settle_each.Statement.{statement}
 use Rattle.exhaustive.proofs.settled.settle_each.Tie as tie
 
 abbrev Inv-loop : tie.InvT-loop
-Inv-loop request n outcome settlings tally₀ i₀ tally i = i ≤ settlings
+Inv-loop request n over outcome tally₀ i₀ tally i = i ≤ n
 
 abbrev μ-loop : tie.MeasureT-loop
-μ-loop request n outcome settlings tally₀ i₀ tally i = settlings - i
+μ-loop request n over outcome tally₀ i₀ tally i = n - i
 
 ask-requires : tie.Need-ask-requires Inv-loop μ-loop
 ask-requires c κs = search needs
-
-mul-settlings : tie.Need-mul-settlings Inv-loop μ-loop
-mul-settlings c = search needs
 
 loop-holds : tie.Need-loop-holds Inv-loop μ-loop
 loop-holds c = search needs
@@ -44,7 +41,6 @@ settle-each-spec =
     Inv-loop
     μ-loop
     ask-requires
-    mul-settlings
     loop-holds
     cast-settle
     settle-requires

@@ -30,7 +30,7 @@ returns c =
     in-numbers _ _ _ _ _ _ (point .before .before .before .before .read .ensures) (point .reading .given .1)
     (c .numbers .ensures
     ∙ rw (number .number .ensures)
-    (ap (readingNumbers _ 0) {y = settingsOf (pos 0) 0 0 0 0 0 0} (c .before .gather .ensures)))
+    (ap (readingNumbers _ 0) {y = settingsOf (pos 0) 0 0 0 0 0 0 0} (c .before .gather .ensures)))
 
 returns-2 : tie.Need-returns-2
 returns-2 c =

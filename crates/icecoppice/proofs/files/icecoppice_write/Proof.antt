@@ -29,8 +29,8 @@ in-numbers s los his buffer buffer′ written e is n =
 left : (c : tie.After-write) → let args = c .before .before .before .before .args in
     outcomeOf (c .write .result) (c .write .last .1 .1 .1 .0)
     ≡ writing
-    (settingsOf (args .k) (args .len) (args .h) (args .windows-least) (args .windows-most) (args .covered-least)
-    (args .covered-most))
+    (settingsOf (args .k) (args .len) (args .h) (args .settle) (args .windows-least) (args .windows-most)
+    (args .covered-least) (args .covered-most))
     (args .lowest .now) (args .highest .now) (args .out .now)
 left c =
     let gathered = c .before .before in

@@ -4,7 +4,7 @@ use Rattle.judge.proofs.marks.advance.Statement.{statement}
 use Rattle.judge.proofs.marks.advance.Tie as tie
 
 returns : tie.Need-returns
-returns c = rw (c .before .slots-after .ensures, c .bridges-after .ensures)
+returns c = rw (c .before .before .slots-after .ensures, c .before .bridges-after .ensures, c .owed-after .ensures)
 
 pub advance-spec : {M : Type 1} → statement M
-advance-spec = tie.close (tie.spec (λ c κs. search needs) (λ c κs. search needs) returns)
+advance-spec = tie.close (tie.spec (λ c κs. search needs) (λ c κs. search needs) (λ c κs. search needs) returns)

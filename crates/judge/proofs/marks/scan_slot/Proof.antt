@@ -19,6 +19,9 @@ returns-4 c = search steps depth 7
 returns-5 : tie.Need-returns-5
 returns-5 c = search steps depth 7
 
+returns-6 : tie.Need-returns-6
+returns-6 c = search steps depth 7
+
 pub scan-slot-spec : {M : Type 1} → statement M
 scan-slot-spec =
     tie.close
@@ -29,5 +32,7 @@ scan-slot-spec =
     returns-2
     (λ c κs. search needs)
     returns-3
+    (λ c κs. search needs)
     returns-4
-    returns-5)
+    returns-5
+    returns-6)
