@@ -1,5 +1,7 @@
 // Bytes put into a lent buffer from a place on. What comes back is the place after them, so that more can follow; a
 // buffer that is too short takes what fits. specs/Written.antt says so.
+#![tactic(auto)]
+
 ghost use Rattle.std.specs.Prelude.{[], ◌∷◌};
 ghost use Rattle.buffer.specs.Written.{Written};
 

@@ -1,5 +1,7 @@
 // Form 1 files: the reader, and the look-up by slot number. specs/Reading.antt and specs/LookUp.antt say what comes
 // back.
+#![tactic(auto)]
+
 ghost use Rattle.std.specs.Prelude.{◌≡◌};
 ghost use Rattle.card.specs.Reading.{outcome_of, reading};
 
@@ -15,14 +17,14 @@ mod records;
 pub use lookup::look_up;
 
 // What the reader answers besides the loads.
-#[derive(Drop)]
+#[derive(Clone, Copy)]
 pub enum Reading {
     Refused(Refusal),
     Taken { settings: Settings, n: usize },
 }
 
 // What a look-up answers.
-#[derive(Drop)]
+#[derive(Clone, Copy)]
 pub enum Found {
     Refused(Refusal),
     Record(Range),

@@ -1,6 +1,8 @@
 // Works the cases of its standard input, one on each line: document 01's worked plans, and more. A line begins with the
 // name of an operation, whose numbers stand in fields divided by `;`. Words are skipped. Every line is written as it
 // is, and below it what the operation gave.
+#![tactic(auto)]
+
 use crate::cards::read;
 use crate::filtered::filtered;
 use crate::judged::{chosen, judged};

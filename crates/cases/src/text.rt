@@ -2,14 +2,14 @@
 ghost use Rattle.std.specs.Prelude.{◌+◌, ◌≤◌, ◌<◌, min, length};
 
 // The number that the digits from a place on make, and the place after them.
-#[derive(Drop)]
+#[derive(Clone, Copy)]
 struct Digits {
     size: u32,
     next: usize,
 }
 
 // Whether a number begins at a place, the number, and the place after it. Where none begins, that is the next place.
-#[derive(Drop)]
+#[derive(Clone, Copy)]
 pub struct Number {
     pub found: bool,
     pub value: i32,

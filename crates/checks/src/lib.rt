@@ -1,5 +1,7 @@
 // Every check of a request, from lengths to slots: refusals 21 to 31. Their order is `request_refusal` in
 // crates/requests/specs/Request.antt.
+#![tactic(auto)]
+
 ghost use Rattle.std.specs.Prelude.{◌≡◌, length};
 ghost use Rattle.std.specs.Int.Signed.{lt_z};
 ghost use Rattle.refusals.specs.Answer.{meaning};

@@ -1,4 +1,6 @@
 // The chooser, as document 01 calls it: the better of two finished plans.
+#![tactic(auto)]
+
 ghost use Rattle.std.specs.Prelude.{◌≡◌};
 ghost use Rattle.chooser.specs.Choice.{Chosen, choice, fewer as Choice·fewer};
 ghost use Rattle.judge.specs.Judgment.{meaning};
@@ -7,7 +9,7 @@ use judge::{Verdict, judge};
 use settings::Settings;
 
 // Which of two plans is chosen, if any.
-#[derive(Drop)]
+#[derive(Clone, Copy)]
 pub enum Choice {
     First,
     Second,

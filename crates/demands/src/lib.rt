@@ -1,1 +1,2 @@
 // Statements (specs/) and their proofs (proofs/) only: no operation.
+#![tactic(auto)]

@@ -1,5 +1,7 @@
 // The first plan that begins with given marks, drawn from the first slot on, for slots that are given by what
 // each can be; and the bytes that say so of a request's slots.
+#![tactic(auto)]
+
 ghost use Rattle.std.specs.Prelude.{◌≡◌, ◌+◌, min, length, take, get_or};
 ghost use Rattle.std.proofs.lemmas.List.Edits.{sets};
 ghost use Rattle.settings.specs.Refusals.{limit, places};

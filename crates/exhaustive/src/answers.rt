@@ -18,7 +18,7 @@ const MOVED: u16 = 2;
 
 // A code or a refusal's number, the slot of refusal 31, both minimums and the thrift. Without a plan these three are
 // 65,535.
-#[derive(Drop)]
+#[derive(Clone, Copy)]
 pub struct Outcome {
     pub code: u16,
     pub slot: usize,
@@ -28,7 +28,7 @@ pub struct Outcome {
 }
 
 // The answer, and what the three slices hold after the call.
-#[derive(Drop)]
+#[derive(Clone, Copy)]
 pub struct Given {
     pub outcome: Outcome,
     pub lowest: [i32; 8],

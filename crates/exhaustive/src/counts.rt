@@ -3,7 +3,7 @@ use libc::STDOUT_FILENO;
 
 // How many were compared, how many of these were planned, judged yes, have a window, have a next plan or break a rule
 // that need not hold, and how many differ.
-#[derive(Drop)]
+#[derive(Clone, Copy)]
 pub struct Tally {
     pub compared: u32,
     pub met: u32,

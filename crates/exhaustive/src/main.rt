@@ -17,6 +17,8 @@
 // Calls of the filter, the judge, the writer and paging, and starts of a watch: at and around the limits of the table;
 // those of paging, and those with another settle count than 1, are samples. Their lines have how often the table gives
 // each refusal's number that it gives; 0 stands for no refusal.
+#![tactic(auto)]
+
 use crate::calls::{CALLS, FILTER_CALLS, JUDGE_CALLS, PAGING_CALLS, STARTS};
 use crate::counts::write;
 use crate::refused::Operation;

@@ -19,7 +19,7 @@ const END: u16 = 1;
 const GIVEN_PLAN: u16 = 35;
 
 // A code or a refusal's number, and what the lent slice holds then.
-#[derive(Drop)]
+#[derive(Clone, Copy)]
 struct Answer {
     code: u16,
     marks: [u8; 8],

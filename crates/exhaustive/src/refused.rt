@@ -17,7 +17,7 @@ use watch::{Started, Watch};
 use writer::Writing;
 
 // What is called.
-#[derive(Drop)]
+#[derive(Clone, Copy)]
 pub enum Operation {
     Filter,
     Judge,
@@ -27,7 +27,7 @@ pub enum Operation {
 }
 
 // A refusal's number, or 0, the slot of refusal 31, and whether the lent slices hold what they held before.
-#[derive(Drop)]
+#[derive(Clone, Copy)]
 struct Refused {
     number: u16,
     slot: usize,

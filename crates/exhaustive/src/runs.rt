@@ -6,7 +6,7 @@ use crate::samples::is_accepted;
 use crate::{filtered, judged, loosened, paged, settled, watched};
 
 // What is compared.
-#[derive(Drop)]
+#[derive(Clone, Copy)]
 pub enum Kind {
     Filtered,
     Judged,

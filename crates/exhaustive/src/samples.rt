@@ -7,7 +7,7 @@ use rule::Shape;
 use settings::{CountRange, Settings};
 
 // A request of at most 8 slots, with the row of its threshold.
-#[derive(Drop)]
+#[derive(Clone, Copy)]
 pub struct Request {
     pub settings: Settings,
     pub threshold: usize,

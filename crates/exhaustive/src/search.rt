@@ -9,7 +9,7 @@ use settings::Settings;
 // What the plans found so far have: the marks of the first one; the least counts, each by itself, and the least covered
 // count of those with the fewest windows, all 8 before the first plan; a bit for each slot where loads at most k occur,
 // and a bit for each slot where loads above k do.
-#[derive(Drop)]
+#[derive(Clone, Copy)]
 pub struct Found {
     pub planned: bool,
     pub first: [u8; 8],

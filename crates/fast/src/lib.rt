@@ -5,6 +5,8 @@
 // there on. What these counts are is `best` (crates/requests/specs/Best.antt). Rows of the slots from the last to the
 // first count what lies before a slot; a window or an uncovered slot is part of a plan if it fits between the two sides
 // (crates/sides).
+#![tactic(auto)]
+
 ghost use Rattle.std.specs.Prelude.{true, ◌≡◌, length, take, get_or, ℕ, ◌-◌, ◌≤◌, ◌<◌, min};
 ghost use Rattle.rule.specs.ClassCodes.{decode_all};
 ghost use Rattle.settings.specs.Refusals.{limit, places};
@@ -40,7 +42,7 @@ pub const NO_PLAN: u16 = 65535;
 
 // What is found of slots (`Solves` in specs/Solved.antt). `lost` has a byte for each slot: 1 where it loses the under
 // part of its range, 2 where it loses the over part, else 0.
-#[derive(Drop)]
+#[derive(Clone, Copy)]
 pub struct Solved {
     pub windows: u16,
     pub thrift: u16,

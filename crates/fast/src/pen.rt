@@ -15,7 +15,7 @@ use marks::{close_window, left_of, next_mark};
 use settings::{PLACES, Settings};
 
 // Where a plan is drawn on: the next slot, the mark before it, and how many slots may still be covered.
-#[derive(Drop)]
+#[derive(Clone, Copy)]
 pub struct Pen {
     pub slot: usize,
     pub mark: u8,

@@ -11,7 +11,7 @@ use rule::UNDER;
 use settings::PLACES;
 
 // The slots of a window under way, and how many of them must be bridges.
-#[derive(Drop)]
+#[derive(Clone, Copy)]
 pub struct Span {
     pub slots: u16,
     pub bridges: u16,

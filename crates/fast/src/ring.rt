@@ -45,7 +45,7 @@ pub(crate) fn one_fewer(n: u16) -> u16
 }
 
 // A window count, and the least covered count with at most so many windows.
-#[derive(Drop)]
+#[derive(Clone, Copy)]
 pub struct Found {
     pub windows: u16,
     pub thrift: u16,
@@ -65,7 +65,7 @@ fn or_found(found: Found, v: u16, count: u16, most: u16) -> Found
 }
 
 // The last row that was made, and the counts that went up with the rows (`Counted` in specs/Found.antt).
-#[derive(Drop)]
+#[derive(Clone, Copy)]
 pub struct Filled {
     pub last: u16,
     pub windows: u16,

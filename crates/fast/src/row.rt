@@ -15,7 +15,7 @@ use settings::PLACES;
 
 // The near ends of a slot: the first so many of those that it reaches, and the least of their counts. For the ends that
 // follow them there are the minima.
-#[derive(Drop)]
+#[derive(Clone, Copy)]
 pub struct Near {
     pub ends: u16,
     pub least: u16,

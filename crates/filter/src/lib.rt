@@ -1,6 +1,8 @@
 // The filter, in document 01's term: it cuts load ranges to the loads that occur in some plan, and
 // draws the first plan. What it promises is in the crate requests: specs/Request.antt has the words of a
 // request, specs/Promise.antt what comes back.
+#![tactic(auto)]
+
 ghost use Rattle.std.specs.Prelude.{◌≡◌};
 ghost use Rattle.filter.specs.AnswerMeaning.{outcome_of};
 ghost use Rattle.requests.specs.Promise.{Keeps};
@@ -18,7 +20,7 @@ use settings::{CountRange, Settings, differ};
 mod narrow;
 
 // What the filter answers.
-#[derive(Drop)]
+#[derive(Clone, Copy)]
 pub enum Answer {
     Refused(Refusal),
     NoPlan,

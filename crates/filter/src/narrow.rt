@@ -11,7 +11,7 @@ use rule::{OVER, Range, UNDER};
 use settings::{LIMIT, Settings};
 
 // What a slot loses.
-#[derive(Drop)]
+#[derive(Clone, Copy)]
 pub enum Part {
     Nothing,
     Under,

@@ -1,6 +1,8 @@
 // Form 1, the file on the card: whether a file has this form, what its trailer says, and the record at a place; and a
 // record and a trailer put at a place. specs/Form1.antt and specs/Layout.antt define the form, specs/Opening.antt what
 // comes back.
+#![tactic(auto)]
+
 ghost use Rattle.std.specs.Prelude.{◌≡◌};
 ghost use Rattle.buffer.specs.Written.{Written};
 ghost use Rattle.form1.specs.Layout.{record_bytes};
@@ -23,14 +25,14 @@ pub use fields::{SETTLE, TRAILER, put_trailer};
 pub const RECORD: usize = 8;
 
 // What the trailer says; start is the place of the first record.
-#[derive(Drop)]
+#[derive(Clone, Copy)]
 pub struct Contents {
     pub settings: Settings,
     pub n: usize,
     pub start: usize,
 }
 
-#[derive(Drop)]
+#[derive(Clone, Copy)]
 pub enum Opened {
     Refused(Refusal),
     Whole(Contents),

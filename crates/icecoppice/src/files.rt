@@ -13,7 +13,7 @@ use writer::{Writing, write};
 // What the reader gives, in numbers: the code 0, the number of slots and the settings, or the refusal's number and
 // zeros.
 #[repr(C)]
-#[derive(Drop)]
+#[derive(Clone, Copy)]
 pub struct ReadingNumbers {
     pub code: u16,
     pub n: usize,
@@ -29,7 +29,7 @@ pub struct ReadingNumbers {
 
 // What a look-up gives, in numbers: the code 0 and the slot's load range, or the refusal's number and zeros.
 #[repr(C)]
-#[derive(Drop)]
+#[derive(Clone, Copy)]
 pub struct FoundNumbers {
     pub code: u16,
     pub lowest: i32,
@@ -39,7 +39,7 @@ pub struct FoundNumbers {
 // What the writer gives, in numbers: the code 0 and the file's length, or the refusal's number, and for 31 also the
 // slot.
 #[repr(C)]
-#[derive(Drop)]
+#[derive(Clone, Copy)]
 pub struct WritingNumbers {
     pub code: u16,
     pub slot: usize,

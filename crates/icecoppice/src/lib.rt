@@ -1,5 +1,7 @@
 // The filter, the judge, the paging, the reader, the look-up, the writer and the watch for C, on numbers and slices,
 // under names that begin with `icecoppice_`. include/icecoppice.h declares them.
+#![tactic(auto)]
+
 ghost use Rattle.std.specs.Prelude.{◌≡◌};
 ghost use Rattle.judge.specs.Judgment.{judgment, meaning as Verdict·meaning};
 ghost use Rattle.filter.specs.AnswerMeaning.{meaning as Answer·meaning};
@@ -26,7 +28,7 @@ pub use watches::{StartNumbers, StepNumbers, icecoppice_watch_start, icecoppice_
 // What the filter answers, in numbers: the code is 0 for planned, 1 for no plan, else the refusal's number; what does
 // not apply is 0.
 #[repr(C)]
-#[derive(Drop)]
+#[derive(Clone, Copy)]
 pub struct AnswerNumbers {
     pub code: u16,
     pub slot: usize,
@@ -40,7 +42,7 @@ pub struct AnswerNumbers {
 // What the judge answers, in numbers: the code is 0 for yes, 1 for no, else the refusal's number; the counts are 0
 // unless it says yes.
 #[repr(C)]
-#[derive(Drop)]
+#[derive(Clone, Copy)]
 pub struct VerdictNumbers {
     pub code: u16,
     pub windows: u16,

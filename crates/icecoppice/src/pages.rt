@@ -11,7 +11,7 @@ use paging::{Page, next_plan};
 // What a call gives, in numbers: the code is 0 for a next plan, 1 for no further one, else the refusal's number, for 31
 // also with the slot.
 #[repr(C)]
-#[derive(Drop)]
+#[derive(Clone, Copy)]
 pub struct PageNumbers {
     pub code: u16,
     pub slot: usize,

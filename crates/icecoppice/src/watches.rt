@@ -7,7 +7,7 @@ use watch::{Answer, Started, Watch};
 
 // What a watch's start gives, in numbers: the code 0 and a state, or the refusal's number and a state of zeros.
 #[repr(C)]
-#[derive(Drop)]
+#[derive(Clone, Copy)]
 pub struct StartNumbers {
     pub code: u16,
     pub watch: Watch,
@@ -16,7 +16,7 @@ pub struct StartNumbers {
 // What a step gives, in numbers: the code 0 and whether the load opened a window, or the refusal's number; and the
 // state that replaces the one given.
 #[repr(C)]
-#[derive(Drop)]
+#[derive(Clone, Copy)]
 pub struct StepNumbers {
     pub code: u16,
     pub opened: bool,

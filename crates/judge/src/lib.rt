@@ -1,4 +1,6 @@
 // The judge, as document 01 calls it: whether a finished plan is allowed. What it says is in specs/Judgment.antt.
+#![tactic(auto)]
+
 ghost use Rattle.std.specs.Prelude.{◌≡◌};
 ghost use Rattle.judge.specs.Judgment.{judgment, meaning};
 
@@ -9,7 +11,7 @@ use settings::{Settings, check, differ};
 mod marks;
 
 // What the judge says of a plan.
-#[derive(Drop)]
+#[derive(Clone, Copy)]
 pub enum Verdict {
     Yes { windows: u16, covered: u16 },
     No,

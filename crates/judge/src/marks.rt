@@ -9,14 +9,14 @@ use rule::{ScanState, Shape, over};
 use settings::Settings;
 
 // What one slot of a scan gives: the state after it, or that its mark breaks the rule.
-#[derive(Drop)]
+#[derive(Clone, Copy)]
 pub enum Step {
     On(ScanState),
     Broken,
 }
 
 // How many windows marks draw, and how many slots they cover.
-#[derive(Drop)]
+#[derive(Clone, Copy)]
 pub struct Counts {
     pub windows: u16,
     pub covered: u16,

@@ -1,6 +1,8 @@
 // Least counts of slots, where each slot is given by what it can be. There is one row for each
 // number of windows: at each slot's place it has the least covered count of the slots from there
 // on. What these counts are is `best` (crates/requests/specs/Best.antt).
+#![tactic(auto)]
+
 ghost use Rattle.std.specs.Prelude.{cond, ◌≡◌, leb, ltb, eqb, ℕ, ◌+◌, ◌-◌, ◌≤◌, ◌<◌, min, length, take};
 ghost use Rattle.settings.specs.Refusals.{limit, places};
 ghost use Rattle.requests.specs.Best.{using_one};
@@ -18,7 +20,7 @@ pub const NO_PLAN: u16 = 65535;
 
 // A window under way: the slots and bridges left to it, the slots that it has covered so far, and
 // the least covered count found up to here, of the window and what comes after it.
-#[derive(Drop)]
+#[derive(Clone, Copy)]
 pub struct UnderWay {
     pub slots: u16,
     pub bridges: u16,
@@ -32,7 +34,7 @@ pub struct UnderWay {
 // w is 0 it has NO_PLAN at all places. `first` is the first window count below w with which the covered maximum
 // is kept, or w; a maximum of NO_PLAN is always kept. `thrift` is the least covered count with that many
 // windows, or with w - 1 where `first` is w; where w is 0 it is NO_PLAN.
-#[derive(Drop)]
+#[derive(Clone, Copy)]
 struct Filled {
     after: [u16; PLACES],
     first: u16,
@@ -44,7 +46,7 @@ struct Filled {
 // `windows` is the least window count within both maximums; where there is no plan it is the window
 // maximum, and where the covered maximum is NO_PLAN it is 0. `thrift` is the least covered count
 // with at most `windows` windows, or NO_PLAN: of a plan, the least among those with the fewest.
-#[derive(Drop)]
+#[derive(Clone, Copy)]
 pub struct LeastCounts {
     pub windows: u16,
     pub thrift: u16,

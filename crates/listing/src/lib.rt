@@ -1,4 +1,6 @@
 // The text of an answer, as the plan printer writes it. specs/Text.antt defines it.
+#![tactic(auto)]
+
 ghost use Rattle.std.specs.Prelude.{◌≤◌, length};
 ghost use Rattle.settings.specs.Refusals.{limit};
 ghost use Rattle.listing.specs.Text.{text, max_length};

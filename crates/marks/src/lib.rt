@@ -1,4 +1,6 @@
 // The next mark of a plan that is drawn from the first slot on, and what is left after it.
+#![tactic(auto)]
+
 ghost use Rattle.std.specs.Prelude.{◌≡◌};
 ghost use Rattle.rule.specs.ClassCodes.{decode};
 ghost use Rattle.requests.specs.Drawing.{closed_mark, next_mark, left_of};

@@ -1,5 +1,7 @@
 // The plans of a request, page by page: the next plan after a given one (document 02, T-05). What is promised is in
 // specs/Paging.antt, and what follows for all pages in specs/Pages.antt.
+#![tactic(auto)]
+
 ghost use Rattle.std.specs.Prelude.{◌≡◌};
 ghost use Rattle.refusals.specs.Answer.{meaning as Checked·meaning};
 ghost use Rattle.paging.specs.PageMeaning.{meaning};
@@ -19,7 +21,7 @@ mod plans;
 pub const PAGE_LIMIT: usize = 12;
 
 // What a call gives.
-#[derive(Drop)]
+#[derive(Clone, Copy)]
 pub enum Page {
     Refused(Refusal),
     Next,

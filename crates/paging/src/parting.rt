@@ -13,7 +13,7 @@ use drawing::complete;
 use settings::Settings;
 
 // A slot, and the mark with which a plan parts there; 4 where there is none.
-#[derive(Drop)]
+#[derive(Clone, Copy)]
 pub struct Parting {
     pub slot: usize,
     pub mark: u8,

@@ -1,4 +1,6 @@
 // The plan printer: reads one form 1 file from standard input and writes its plan to standard output.
+#![tactic(auto)]
+
 ghost use Rattle.std.specs.Prelude.{◌≡◌, ◌≤◌, length};
 ghost use Rattle.settings.specs.Refusals.{limit};
 ghost use Rattle.requests.specs.Request.{request_of};
@@ -18,7 +20,7 @@ const HELD_BYTES: usize = 4097;
 const MAX_LENGTH: usize = 53 + 32 * LIMIT;
 
 // What was read of a file: the first `size` of `bytes`.
-#[derive(Drop)]
+#[derive(Clone, Copy)]
 pub struct Input {
     pub bytes: [u8; HELD_BYTES],
     pub size: usize,

@@ -1,1 +1,2 @@
 // Definitions (specs/) and theorems (proofs/) only: no operation.
+#![tactic(auto)]

@@ -1,4 +1,6 @@
 // Why something is refused. Document 01's numbers are in specs/Numbers.antt.
+#![tactic(auto)]
+
 ghost use Rattle.std.specs.Prelude.{◌≡◌};
 ghost use Rattle.refusals.specs.Numbers.{number as Numbers·number, slot as Numbers·slot};
 
@@ -6,7 +8,7 @@ ghost use Rattle.refusals.specs.Numbers.{number as Numbers·number, slot as Numb
 // settings (21 to 27), of settings that form 1 cannot hold (28), of slots (31, which carries the first slot whose
 // lowest load is above its highest), of a step of the watch (32, then 33), of the plans of a request as they are paged
 // through (34, then 35).
-#[derive(Drop)]
+#[derive(Clone, Copy)]
 pub enum Refusal {
     Size,
     End,
@@ -33,7 +35,7 @@ pub enum Refusal {
 }
 
 // What a check gives: all passed, or the first refusal that applies.
-#[derive(Drop)]
+#[derive(Clone, Copy)]
 pub enum Checked {
     Passed,
     Refused(Refusal),

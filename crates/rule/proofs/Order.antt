@@ -1,18 +1,36 @@
 -- The order of marks, and the first of the marks that a property holds of: there is only one, and it is the same for the
 -- same marks.
-use Prim.Native.Nat.{ℕ, ◌≤◌}
+use Prim.Native.Nat.{ℕ, ◌≤◌, ◌<◌}
 use native.Mathlib.Omega.{arith}
 use mathlib.Core.List.{List, [], ◌∷◌}
 use mathlib.Core.Logic.{◌⊎◌, inl, inr}
-use mathlib.Core.Path.{◌≡◌, sym, ap}
+use mathlib.Core.Path.{◌≡◌, refl, sym, ap}
 use lib.ListN.{length}
 use Rattle.rule.specs.Order.{◌≺◌, ended, smaller, level, First}
 
+-- the order by recursion on both lists of marks
+abbrev Before : (ms ks : List ℕ) → Type 0
+Before [] [] = ⊥
+Before [] (k ∷ ks) = Unit {0}
+Before (m ∷ ms) [] = ⊥
+Before (m ∷ ms) (k ∷ ks) = (m < k) ⊎ ((m ≡ k) × Before ms ks)
+
+≺→before : {ms ks : List ℕ} → ms ≺ ks → Before ms ks
+≺→before ended = tt
+≺→before (smaller e) = inl e
+≺→before (level e) = inr (refl, ≺→before e)
+
+before-asym : (ms ks : List ℕ) → Before ms ks → Before ks ms → ⊥
+before-asym [] [] e f = e
+before-asym [] (k ∷ ks) e f = f
+before-asym (m ∷ ms) [] e f = e
+before-asym (m ∷ ms) (k ∷ ks) (inl e) (inl f) = omega arith
+before-asym (m ∷ ms) (k ∷ ks) (inl e) (inr f) = omega (arith, f.0)
+before-asym (m ∷ ms) (k ∷ ks) (inr e) (inl f) = omega (arith, e.0)
+before-asym (m ∷ ms) (k ∷ ks) (inr e) (inr f) = before-asym ms ks e.1 f.1
+
 ≺-asym : {ms ks : List ℕ} → ms ≺ ks → ks ≺ ms → ⊥
-≺-asym (smaller e) (smaller f) = omega arith
-≺-asym (smaller e) (level f) = omega arith
-≺-asym (level e) (smaller f) = omega arith
-≺-asym (level e) (level f) = ≺-asym e f
+≺-asym e f = before-asym _ _ (≺→before e) (≺→before f)
 
 -- no marks come before any
 pub none_before : (ms : List ℕ) → 1 ≤ length ms → [] ≺ ms

@@ -209,9 +209,9 @@ module _ {A : Type 0} (goes : A → ℕ → Bool) (shape : Shape) where
   from→plan [] [] (inside a_bridge l b) o = absurd (false≢true o.order)
   from→plan [] (m ∷ ms) s o = absurd (false≢true o.agree)
   from→plan (x ∷ xs) [] s o = absurd (false≢true o.agree)
-  from→plan (x ∷ xs) (m ∷ ms) s o =
+  from→plan {at = at} (x ∷ xs) (m ∷ ms) s o =
       let (p, left) = legal_from-split goes (nonzero shape) _ ms x xs m o in
-      plan-cons (kind m) s p (λ st n. from→plan xs ms n left)
+      plan-cons (kind m) s p (λ st n. from→plan {at = scanned at m} xs ms n left)
 
   -- where a window closes, marks that are legal from the start are legal from here
   from-closed : {p l b q : ℕ} (xs : List A) (ms : List ℕ) → p ≤ 2 →
@@ -226,7 +226,7 @@ module _ {A : Type 0} (goes : A → ℕ → Bool) (shape : Shape) where
         shape_kept = keeps_from-of-ordered goes (nonzero shape) ms f o.order owed o.shape_kept.kept;
       }
 
-  plan→from : {at : ScanState} {st : State} {xs : List A} {ms : List ℕ} → PlanBy st xs ms → StandsAt at st →
+  plan→from : {st : State} {xs : List A} {ms : List ℕ} → PlanBy st xs ms → {at : ScanState} → StandsAt at st →
       LegalFrom goes (nonzero shape) at xs ms
   unfolding slots_after bridges_after owed_after too_soon
   plan→from done (outside l b) = not-3→from-nil goes (nonzero shape) _ (omega arith) refl

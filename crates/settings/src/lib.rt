@@ -1,4 +1,6 @@
 // The settings of a request, and the refusals of lengths and settings, 21 to 27: their table is in specs/Refusals.antt.
+#![tactic(auto)]
+
 ghost use Rattle.std.specs.Prelude.{◌≡◌};
 ghost use Rattle.refusals.specs.Answer.{meaning};
 ghost use Rattle.settings.specs.Refusals.{refusal, lengths_refusal, shape_refusal, settings_refusal};
@@ -18,7 +20,7 @@ pub const MAX_SETTLE: u16 = 8;
 pub const PLACES: usize = LIMIT + 1;
 
 // A range of counts, both ends included.
-#[derive(Drop)]
+#[derive(Clone, Copy)]
 pub struct CountRange {
     pub least: u16,
     pub most: u16,
@@ -26,7 +28,7 @@ pub struct CountRange {
 
 // What a request has besides its loads: the threshold (k in document 01), the shape of windows, and the
 // ranges of the window count and the covered count.
-#[derive(Drop)]
+#[derive(Clone, Copy)]
 pub struct Settings {
     pub k: i32,
     pub shape: Shape,

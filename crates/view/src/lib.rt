@@ -1,10 +1,12 @@
 // The view, as document 01 calls it: held over a file's bytes, for look_ups by slot number.
+#![tactic(auto)]
+
 ghost use Rattle.std.specs.Prelude.{◌≡◌};
 ghost use Rattle.card.specs.LookUp.{meaning, looking};
 
 use card::{Found, look_up};
 
-#[derive(Drop)]
+#[derive(Clone, Copy)]
 pub struct View<'a> {
     pub file: &'a [u8],
 }

@@ -1,6 +1,8 @@
 // The watch, in document 01's term: the camera's own count of windows, load by load. The state that
 // comes back replaces the one that went in. specs/States.antt has the states that loads lead to,
 // specs/Start.antt and specs/Promise.antt what comes back.
+#![tactic(auto)]
+
 mod reached;
 mod run;
 mod start;
@@ -14,7 +16,7 @@ pub use step::{Answer, Stepped};
 // active window, the one that the next slot may still lie in: `room` is the slots left to it,
 // `spare` the bridges. Both are 0 when no window is active.
 #[repr(C)]
-#[derive(Drop)]
+#[derive(Clone, Copy)]
 pub struct Watch {
     pub k: i32,
     pub len: u16,

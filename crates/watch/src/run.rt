@@ -8,7 +8,7 @@ use refusals::Checked;
 
 // The state after the loads that were taken, how many these are, and whether they are all the
 // loads, or why the next one is refused.
-#[derive(Drop)]
+#[derive(Clone, Copy)]
 pub struct Ran {
     pub watch: Watch,
     pub taken: usize,

@@ -7,7 +7,7 @@ use refusals::{Checked, Refusal};
 use settings::{LIMIT, check_shape};
 
 // What a start gives.
-#[derive(Drop)]
+#[derive(Clone, Copy)]
 pub enum Started {
     Watching(Watch),
     Refused(Refusal),

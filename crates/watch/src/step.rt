@@ -11,14 +11,14 @@ use refusals::Refusal;
 use rule::over;
 
 // The load is taken, and opened a window or not; or the step is refused.
-#[derive(Drop)]
+#[derive(Clone, Copy)]
 pub enum Answer {
     Taken { opened: bool },
     Refused(Refusal),
 }
 
 // The state that replaces the one given, and the answer.
-#[derive(Drop)]
+#[derive(Clone, Copy)]
 pub struct Stepped {
     pub watch: Watch,
     pub answer: Answer,

@@ -1,5 +1,7 @@
 // The writer of form 1 files: settings and load ranges as bytes in a lent buffer, without a note. specs/Writing.antt
 // says what comes back.
+#![tactic(auto)]
+
 ghost use mathlib.Core.List.{flat_map};
 ghost use Rattle.std.specs.Prelude.{◌≡◌, length};
 ghost use Rattle.buffer.specs.Written.{Written};
@@ -14,7 +16,7 @@ use rule::Range;
 use settings::Settings;
 
 // What the writer answers besides the bytes.
-#[derive(Drop)]
+#[derive(Clone, Copy)]
 pub enum Writing {
     Refused(Refusal),
     Stored { length: usize },
