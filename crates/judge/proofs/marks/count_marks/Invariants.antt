@@ -1,0 +1,16 @@
+-- `judge::marks::count_marks` meets its contract. The loop's invariant: each count is of the marks so far (`Tally`).
+use Prim.Native.Nat.{◌-◌, ◌≤◌}
+use native.Mathlib.Omega.{arith}
+use mathlib.Core.Bool.{not}
+use lib.Dec.{eqb}
+use lib.ListN.{length}
+use Rattle.rule.proofs.Tally.{Tally, tally-start, tally-step, tally-end}
+use Rattle.rule.specs.Rule.{windows, covered}
+use Rattle.judge.proofs.marks.count_marks.Given as goal
+
+abbrev pub invariant-loop-i : goal.invariant-loop-i
+invariant-loop-i l = (l.i ≤ length l.marks) × Tally (λ m. eqb m 1) l.marks l.i l.seen.windows
+    × Tally (λ m. not (eqb m 0)) l.marks l.i l.seen.covered
+
+abbrev pub decreases-loop-i : goal.decreases-loop-i
+decreases-loop-i l = length l.marks - l.i

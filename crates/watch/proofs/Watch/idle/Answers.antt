@@ -1,0 +1,13 @@
+-- `watch::Watch::idle` meets its contract: its tests are those of `Idle`, and its product is small (`StateTests`).
+use native.Mathlib.Omega.{arith}
+use Rattle.watch.proofs.StateTests.{sums-bounded}
+use Rattle.facts.proofs.Tests.{false-iff, leb-iff}
+use Rattle.watch.proofs.Watch.idle.Goals as goal
+
+pub returns-then-self-gt0 : goal.returns-then-self-gt0
+returns-then-self-gt0 c = false-iff (λ i. omega (arith, i.bridges))
+
+pub returns : goal.returns
+returns c =
+    rw c.spacing.ensures
+    (leb-iff _ _ (λ bound. record { slots = omega arith; bridges = omega arith; each = bound }) (λ i. i.each))
