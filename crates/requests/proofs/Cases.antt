@@ -51,9 +51,9 @@ settling_fails =
     let (under, (opened, (bo, (bv, (to, (tu, rest)))))) = computed-kept in
     record {
       kept = (bo, (bv, (to, (tu, tt))));
-      beside_open = record { there = omega arith; low = record { le = tt }; high = lt_z_yes tt };
+      open_over = record { there = omega arith; low = record { le = tt }; high = lt_z_yes tt };
       over = refl;
-      between_open = record { there = omega arith; low = record { le = tt }; high = lt_z_yes tt };
+      open_under = record { there = omega arith; low = record { le = tt }; high = lt_z_yes tt };
       under = refl;
     }
 

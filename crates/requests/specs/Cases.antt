@@ -46,8 +46,8 @@ before lowest = replicate (length lowest) 9
 abbrev request : Settings → (lowest highest : List ℤ) → Request
 request s lowest highest = record { settings = s; lowest = lowest; highest = highest; marks = before lowest }
 
-abbrev no_plan : Settings → (lowest highest : List ℤ) → Case
-no_plan s lowest highest =
+abbrev with_no_plan : Settings → (lowest highest : List ℤ) → Case
+with_no_plan s lowest highest =
     record {
       request = request s lowest highest;
       outcome = record { answer = gives no_plan; lowest = lowest; highest = highest; marks = before lowest };
@@ -109,7 +109,7 @@ cases =
     -- B
     ∷ uncut (settings (pos 0) 3 1 (0 ‥ 1) (0 ‥ 4)) lowest_a highest_a (1 ‥ 1) (3 ‥ 4) 3 (1 ∷ 2 ∷ 2 ∷ 0 ∷ [])
     -- C
-    ∷ no_plan (plain_settings 2 (0 ‥ 1) (0 ‥ 4)) lowest_a highest_a
+    ∷ with_no_plan (plain_settings 2 (0 ‥ 1) (0 ‥ 4)) lowest_a highest_a
     -- D
     ∷ uncut (plain_settings 3 (0 ‥ 2) (0 ‥ 7)) lowest_d highest_d (2 ‥ 2) (4 ‥ 7) 4 (0 ∷ 0 ∷ 1 ∷ 0 ∷ 1 ∷ 2 ∷ 2 ∷ [])
     -- E
@@ -125,17 +125,17 @@ cases =
     -- G: one plan has 2 windows, another covers 5 slots
     ∷ uncut (plain_settings 5 (0 ‥ 4) (0 ‥ 8)) lowest_f highest_f (2 ‥ 4) (5 ‥ 8) 7 (1 ∷ 0 ∷ 1 ∷ 1 ∷ 0 ∷ 1 ∷ 2 ∷ 2 ∷ [])
     -- no plan does both
-    ∷ no_plan (plain_settings 5 (0 ‥ 2) (0 ‥ 5)) lowest_f highest_f
+    ∷ with_no_plan (plain_settings 5 (0 ‥ 2) (0 ‥ 5)) lowest_f highest_f
     -- H
     ∷ uncut (plain_settings 1 (0 ‥ 1) (0 ‥ 1)) (loads (0 ∷ [])) (loads (0 ∷ [])) (0 ‥ 1) (0 ‥ 1) 0 (0 ∷ [])
-    ∷ no_plan (plain_settings 1 (0 ‥ 0) (0 ‥ 1)) (loads (1 ∷ [])) (loads (1 ∷ []))
+    ∷ with_no_plan (plain_settings 1 (0 ‥ 0) (0 ‥ 1)) (loads (1 ∷ [])) (loads (1 ∷ []))
     -- I
     ∷ uncut (settings largest 1 0 (0 ‥ 0) (0 ‥ 2)) (largest ∷ largest ∷ []) (largest ∷ largest ∷ []) (0 ‥ 0)
     (0 ‥ 2) 0 (0 ∷ 0 ∷ [])
     -- J
     ∷ uncut (plain_settings 3 (0 ‥ 7) (0 ‥ 7)) highest_d highest_d (3 ‥ 7) (7 ‥ 7) 7 (1 ∷ 1 ∷ 1 ∷ 1 ∷ 1 ∷ 1 ∷ 1 ∷ [])
     -- J at settle 1 (document 02, T-06)
-    ∷ no_plan (at_settle 1 (plain_settings 3 (0 ‥ 7) (0 ‥ 7))) highest_d highest_d
+    ∷ with_no_plan (at_settle 1 (plain_settings 3 (0 ‥ 7) (0 ‥ 7))) highest_d highest_d
     -- loads 5, 1, 5 need one window at k = 0 and two at k = 1 ("Plausible programs that are wrong")
     ∷ uncut (plain_settings 3 (0 ‥ 3) (0 ‥ 3)) loads515 loads515 (1 ‥ 3) (3 ‥ 3) 3 (1 ∷ 1 ∷ 1 ∷ [])
     ∷ uncut (settings (pos 1) 3 0 (0 ‥ 3) (0 ‥ 3)) loads515 loads515 (2 ‥ 3) (2 ‥ 3) 2 (1 ∷ 0 ∷ 1 ∷ [])
@@ -177,7 +177,7 @@ beside_open =
     (loads (1 ∷ 0 ∷ [])) (loads (1 ∷ 0 ∷ [])) (1 ∷ 0 ∷ [])
 
 unfoldable pub beside_over : Case
-beside_over = no_plan one_slot_long (loads (1 ∷ 1 ∷ [])) (loads (1 ∷ 1 ∷ []))
+beside_over = with_no_plan one_slot_long (loads (1 ∷ 1 ∷ [])) (loads (1 ∷ 1 ∷ []))
 
 -- Under at settle 2: an open slot between over slots, with len 3. Settled under, it would be the one slot between
 -- windows.
@@ -188,11 +188,11 @@ unfoldable pub between_open : Case
 between_open = cut three_slots_long loads101 loads111 (1 ‥ 3) (3 ‥ 3) 3 loads111 loads111 (1 ∷ 2 ∷ 2 ∷ [])
 
 unfoldable pub between_under : Case
-between_under = no_plan three_slots_long loads101 loads101
+between_under = with_no_plan three_slots_long loads101 loads101
 
 pub record SettlingFails : Type 0 where
   pub kept : Kept (beside_open ∷ beside_over ∷ between_open ∷ between_under ∷ [])
-  pub beside_open : Open beside_open.request 1
+  pub open_over : Open beside_open.request 1
   pub over : settled_over beside_open.request 1 ≡ beside_over.request
-  pub between_open : Open between_open.request 1
+  pub open_under : Open between_open.request 1
   pub under : settled_under between_open.request 1 ≡ between_under.request
