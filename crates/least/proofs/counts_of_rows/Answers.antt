@@ -1,0 +1,13 @@
+-- `least::counts_of_rows` meets its contract: the counts are read off the rows.
+use native.Mathlib.Omega.{arith}
+use mathlib.Core.Path.{◌∙◌}
+use Rattle.least.proofs.RowLoops.{thrift-step}
+use Rattle.least.proofs.counts_of_rows.Goals as goal
+
+pub returns : goal.returns
+returns c =
+    let args = c.args in
+    let (after, first, thrift) = c.fill_rows-last.ensures in
+    let covered = (c.next_row-row.ensures _ after).counts 0 (omega arith) in
+    let kept = thrift-step args.settings args.classes.now _ first thrift covered in
+    (first, c.thrift_after.ensures ∙ kept, covered)
