@@ -1,0 +1,32 @@
+-- `fast::after::after_windows` meets its contract. The loop's invariant: the counts before slot i are written
+-- (`FilledBefore`).
+use Prim.Native.Nat.{◌+◌, ◌-◌}
+use native.Mathlib.Omega.{arith}
+use mathlib.Core.Bool.{cond}
+use mathlib.Core.Path.{◌≡◌, ◌∙◌}
+use lib.Dec.{eqb}
+use lib.ListN.{length, get_or, length-map}
+use Rattle.requests.specs.Solution.{sentinel}
+use Rattle.rule.specs.ClassCodes.{decode}
+use Rattle.fast.proofs.DrawLoop.{unless-lacking-after}
+use Rattle.fast.proofs.FilledBefore.{FilledBefore, filled-start, filled-step}
+use Rattle.fast.proofs.after.after_windows.Goals as goal
+
+pub loop-i-init : goal.loop-i-init
+loop-i-init c = filled-start
+
+pub loop-i-preserved : goal.loop-i-preserved
+loop-i-preserved c =
+    let loop = c.loop-i in
+    filled-step loop.after loop.i _ loop.invariant (omega arith) c.unless_lacking.ensures
+
+pub returns : goal.returns
+returns c =
+    let loop = c.loop-i in
+    let classes = c.args.classes.now in
+    λ shape w lacking row.
+    record {
+      wide = loop.invariant.wide;
+      counts = λ i l.
+          loop.invariant.done i (omega (arith, l, length-map classes decode)) ∙ unless-lacking-after lacking row i l;
+    }

@@ -1,0 +1,17 @@
+-- `fast::ends::ends_of` meets its contract. The loop's invariant: the ends before slot i are known (`EndsBefore`).
+use Prim.Native.Nat.{◌-◌}
+use native.Mathlib.Omega.{arith}
+use lib.ListN.{length}
+use Rattle.fast.proofs.EndsLoop.{EndsBefore, ends-start, ends-step, ends-end}
+use Rattle.fast.proofs.ends.ends_of.Goals as goal
+
+pub loop-i-init : goal.loop-i-init
+loop-i-init c = ends-start _ _ _ _ (omega arith)
+
+pub loop-i-preserved : goal.loop-i-preserved
+loop-i-preserved c =
+    let loop = c.loop-i in
+    ends-step _ _ _ _ loop.ends _ _ (omega arith) (omega arith) loop.invariant c.«end».ensures
+
+pub returns : goal.returns
+returns c = ends-end _ _ _ _ (omega arith) c.loop-i.invariant

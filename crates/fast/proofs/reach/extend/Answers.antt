@@ -1,0 +1,26 @@
+-- `fast::reach::extend` meets its contract. The loop's invariant: the span goes from slot x up to slot i (`SpanTo`).
+use Prim.Native.Nat.{◌-◌}
+use native.Mathlib.Omega.{arith}
+use mathlib.Core.Path.{refl}
+use lib.ListN.{length}
+use Rattle.fast.proofs.SpanLoop.{SpanTo, span-step, span-full, span-stopped, span_last}
+use Rattle.fast.proofs.reach.extend.Goals as goal
+
+pub loop-i-init : goal.loop-i-init
+loop-i-init c = record { place = refl; covers = c.requires.2 }
+
+pub returns-then-slots-len : goal.returns-then-slots-len
+returns-then-slots-len c = span-full _ _ _ _ c.loop-i.invariant c.if-slots-len.true
+
+pub returns-then-more-h : goal.returns-then-more-h
+returns-then-more-h c =
+    span-stopped _ _ _ _ c.loop-i.invariant _ (omega arith)
+    c.bridges_of-more.ensures.0 (omega arith)
+
+pub loop-i-preserved : goal.loop-i-preserved
+loop-i-preserved c =
+    span-step _ _ _ _ c.loop-i.invariant _ (omega arith) (omega arith)
+    c.bridges_of-more.ensures.0 (omega arith)
+
+pub returns : goal.returns
+returns c = span_last _ _ _ _ c.loop-i.invariant (omega arith)

@@ -1,0 +1,11 @@
+-- `fast::row::first_row` meets its contract. The loop's invariant: the row is filled from slot i on (`FirstRowFrom`).
+use native.Mathlib.Omega.{arith}
+use lib.ListN.{length, length-set}
+use Rattle.fast.proofs.FirstRowLoop.{FirstRowFrom, first-start, first_step, first-end}
+use Rattle.fast.proofs.row.first_row.Given as goal
+
+abbrev pub invariant-loop-i : goal.invariant-loop-i
+invariant-loop-i l = FirstRowFrom l.classes (length l.initial.rows) l.rows l.i
+
+abbrev pub decreases-loop-i : goal.decreases-loop-i
+decreases-loop-i l = l.i

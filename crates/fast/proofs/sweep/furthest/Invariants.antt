@@ -1,0 +1,11 @@
+-- `fast::sweep::furthest` meets its contract. The loop's invariant: no window that fits covers more than k slots
+-- (`AtMost`).
+use native.Mathlib.Omega.{arith}
+use Rattle.fast.proofs.FurthestLoop.{AtMost, furthest-start, furthest-step, furthest-known, furthest-found}
+use Rattle.fast.proofs.sweep.furthest.Given as goal
+
+abbrev pub invariant-loop-k : goal.invariant-loop-k
+invariant-loop-k l = AtMost l.ends l.x l.reach l.room l.k
+
+abbrev pub decreases-loop-k : goal.decreases-loop-k
+decreases-loop-k l = l.k

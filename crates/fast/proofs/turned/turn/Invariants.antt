@@ -1,0 +1,13 @@
+-- `fast::turned::turn` meets its contract. The loop's invariant: the first i of the turned classes are written
+-- (`TurnedBefore`).
+use Prim.Native.Nat.{◌-◌}
+use native.Mathlib.Omega.{arith}
+use mathlib.Core.Path.{refl}
+use Rattle.fast.proofs.TurnLoop.{TurnedBefore, turn-start, turn_step, turn_end}
+use Rattle.fast.proofs.turned.turn.Given as goal
+
+abbrev pub invariant-loop-i : goal.invariant-loop-i
+invariant-loop-i l = TurnedBefore l.classes l.turned l.i
+
+abbrev pub decreases-loop-i : goal.decreases-loop-i
+decreases-loop-i l = l.n - l.i
