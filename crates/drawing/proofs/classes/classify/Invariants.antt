@@ -10,7 +10,7 @@ use Rattle.drawing.proofs.ClassifyLoop.{LeftToClass, class-start, class-step, cl
 use Rattle.drawing.proofs.classes.classify.Given as goal
 
 abbrev pub invariant-loop-i : goal.invariant-loop-i
-invariant-loop-i l = LeftToClass (to_z w32 l.k) l.lowest l.highest l.codes l.i
+invariant-loop-i l = LeftToClass l.k l.lowest l.highest l.codes l.i
 
 abbrev pub decreases-loop-i : goal.decreases-loop-i
 decreases-loop-i l = l.n - l.i
