@@ -38,6 +38,7 @@ module _ (r : Request) where
   rises (page lent ms turned more) = (turned.1.holds.later, rises more)
 
   only-plans : {given ms : List ℕ} {pages : List (List ℕ)} → Pages r given pages → ms ∈ pages → PlanOf r ms
+  only-plans (end {given = given} lent ms _) x5 = elim x5 [ ]
   only-plans (page lent ms turned more) here = from-lent lent turned.1.holds.plan
   only-plans (page lent ms turned more) (there at) = only-plans more at
 

@@ -13,7 +13,7 @@ use Rattle.paging.proofs.check_call.Goals.{After-check_lengths-lengths}
 met : (c : After-check_lengths-lengths) →
     let args = c.args in let n = length args.lowest.now in
     meaning c.check_lengths-lengths.result
-    ≡ lengths_refusal n (differs n (length args.highest.now) || Paging.marks_differ-different n args.given args.marks)
+    ≡ lengths_refusal n (differs n (length args.highest.now) || Paging.marks_differ n args.given args.marks)
 met c = rw (← c.differ.ensures, ← c.marks_differ-different.ensures) c.check_lengths-lengths.ensures
 
 pub returns-in-Refused : goal.returns-in-Refused
@@ -23,15 +23,12 @@ returns-in-Refused c = check-refuses _ _ _ (met (goal.at.returns-in-Refused c).A
 pub returns-then-too_many_slots : goal.returns-then-too_many_slots
 unfolding Paging.checks_refusal
 returns-then-too_many_slots c =
-    let passed = c.before in
-    check-passes _ _ _ (met (goal.at.returns-then-too_many_slots c).After-check_lengths-lengths) passed.in_default.is
+    check-passes _ _ _ (met (goal.at.returns-then-too_many_slots c).After-check_lengths-lengths) c.in_default.is
     (row-applies _ _ _ _ c.too_many_slots.ensures c.if-too_many_slots.true)
 
 pub returns : goal.returns
 unfolding Paging.checks_refusal
 returns c =
-    let counted = c.before in
-    let passed = counted.before in
-    check-passes _ _ _ (met (goal.at.returns c).After-check_lengths-lengths) passed.in_default.is
-    (row-passes _ _ _ _ counted.too_many_slots.ensures counted.if-too_many_slots.false
-    (last-check _ (rw (← passed.marks_differ-different.ensures) c.check_request.ensures)))
+    check-passes _ _ _ (met (goal.at.returns c).After-check_lengths-lengths) c.in_default.is
+    (row-passes _ _ _ _ c.too_many_slots.ensures c.if-too_many_slots.false
+    (last-check _ (rw (← c.marks_differ-different.ensures) c.check_request.ensures)))

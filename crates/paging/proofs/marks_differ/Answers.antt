@@ -10,4 +10,4 @@ returns-then-given-eq0 c = rw (eq-eqb c.args.given 0 c.if-given-eq0.true) c.diff
 pub returns : goal.returns
 unfolding Paging.marks_differ
 returns c =
-    rw (ne_eqb _ 0 c.if-given-eq0.false, ← c.differ2.ensures, ← c.differ3.ensures)
+    rw (ne_eqb _ 0 c.if-given-eq0.false, ← c.differ-2.ensures, ← c.differ-3.ensures)

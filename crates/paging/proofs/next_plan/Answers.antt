@@ -11,8 +11,7 @@ use Rattle.paging.proofs.next_plan.Goals.{In_default}
 
 pub returns-in-Refused : goal.returns-in-Refused
 returns-in-Refused c =
-    let point = c.before in
-    (by_checks (rw point.check_call-checked.ensures at (ap meaning c.in-Refused.is)), refl)
+    (by_checks (rw c.check_call-checked.ensures at (ap meaning c.in-Refused.is)), refl)
 
 -- a call that passes its checks
 abbrev call : In_default → Call
@@ -30,11 +29,10 @@ no_plan_given-requires c =
 
 pub returns-then-no_plan_given : goal.returns-then-no_plan_given
 returns-then-no_plan_given c =
-    let point = c.before in
-    (given-refused (call point) (passes (goal.at.returns-then-no_plan_given c).In_default) (rw (← c.no_plan_given.ensures) c.if-no_plan_given.true), refl)
+    let p = (goal.at.returns-then-no_plan_given c).In_default in
+    (given-refused (call p) (passes p) (rw (← c.no_plan_given.ensures) c.if-no_plan_given.true), refl)
 
 pub turn-requires : goal.turn-requires
 turn-requires c =
-    let refuses = c.before in
-    let point = refuses.before in
-    given-accepted (call point) (passes (goal.at.turn-requires c).In_default) (rw (← refuses.no_plan_given.ensures) c.if-no_plan_given.false)
+    let p = (goal.at.turn-requires c).In_default in
+    given-accepted (call p) (passes p) (rw (← c.no_plan_given.ensures) c.if-no_plan_given.false)

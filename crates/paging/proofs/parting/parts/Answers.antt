@@ -1,14 +1,13 @@
 -- `paging::parting::parts` meets its contract: its two tests, in turn.
 use native.Mathlib.Omega.{arith}
 use mathlib.Core.Path.{sym}
-use borrow.Author.Tests.{not-true, not-false}
 use lib.Seq.{length-take-le}
 use Rattle.paging.specs.Parting
 use Rattle.paging.proofs.parting.parts.Goals as goal
 
 pub returns-then-not-is_above : goal.returns-then-not-is_above
 unfolding Parting.parts
-returns-then-not-is_above c = rw (← c.is_above.ensures, not-true c.is_above.result c.if-not-is_above.true)
+returns-then-not-is_above c = rw (← c.is_above.ensures, c.if-not-is_above.true)
 
 pub slice_bounds-begins_plan-end : goal.slice_bounds-begins_plan-end
 slice_bounds-begins_plan-end c =
@@ -18,11 +17,4 @@ slice_bounds-begins_plan-end c =
 pub returns : goal.returns
 unfolding Parting.parts
 returns c =
-    let point = c.before in
-    let tested = point.before in
-    rw (
-      ← tested.is_above.ensures,
-      not-false tested.is_above.result point.if-not-is_above.false,
-      ← point.parted-front.ensures.1,
-    )
-    c.begins_plan.ensures
+    rw (← c.is_above.ensures, c.if-not-is_above.false, ← c.parted-front.ensures.1) c.begins_plan.ensures

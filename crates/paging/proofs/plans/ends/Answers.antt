@@ -21,12 +21,11 @@ loop-i-init c = filling-start _ _ _ (length-replicate {A = ℤ} page_limit (pos 
 
 pub loop-i-preserved : goal.loop-i-preserved
 loop-i-preserved c =
-    let start = c.before in
-    let (wide, marked, few) = start.requires in
-    let args = start.args in
+    let (wide, marked, few) = c.requires in
+    let args = c.args in
     let loop = c.loop-i in
-    let lo : SFits w32 (at args.lowest.now loop.i) = record { sfits = c.end-for-arg.given } in
-    let hi : SFits w32 (at args.highest.now loop.i) = record { sfits = c.end-for-arg2.given } in
+    let lo : SFits w32 (at args.lowest.now loop.i) = record { sfits = c.end_for-arg-1.given } in
+    let hi : SFits w32 (at args.highest.now loop.i) = record { sfits = c.end_for-arg-in-loop-i-1.given } in
     let load : SFits w32 c.end_for-load.result = record { sfits = c.end_for-load.type_inv } in
     filling_step _ page_limit loop.loads loop.i _ (pos 0)
     (omega (
@@ -42,9 +41,8 @@ loop-i-preserved c =
 
 pub returns : goal.returns
 returns c =
-    let start = c.before in
-    let (wide, marked, few) = start.requires in
-    let args = start.args in
+    let (wide, marked, few) = c.requires in
+    let args = c.args in
     let loop = c.loop-i in
     let ends = ends_for (paired args.lowest.now args.highest.now) args.marks.now in
     let slots : length ends ≡ length args.lowest.now =
