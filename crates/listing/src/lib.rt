@@ -26,7 +26,7 @@ pub fn write_answer(
     ensures written { Written
         (text (outcome_of answer lowest.now highest.now marks.now))
         0 out.old out.new result }
-    ensures marks_len_bound { length lowest.now ≤ limit →
+    ensures short { length lowest.now ≤ limit →
         length (text (outcome_of answer lowest.now highest.now marks.now))
         ≤ max_length }
 {

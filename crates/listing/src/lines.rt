@@ -49,7 +49,7 @@ fn slot_lines(lowest: &[i32], highest: &[i32], marks: &[u8], out: &mut [u8], pla
     requires { place ≤ length out.old }
     ensures written { Written (slot_lines 0 lowest.now highest.now marks.now)
         place out.old out.new result }
-    ensures marks_len_bound { length lowest.now ≤ limit →
+    ensures short { length lowest.now ≤ limit →
         length (slot_lines 0 lowest.now highest.now marks.now)
         ≤ max_line_length * limit }
 {
@@ -77,7 +77,7 @@ fn smaller(a: usize, b: usize) -> usize
 // The line of a refusal, such as that of a card that the reader refuses: its number, and for 31 also the slot.
 pub fn write_refusal(refusal: Refusal, out: &mut [u8]) -> usize
     ensures written { Written (refusal_line refusal) 0 out.old out.new result }
-    ensures refusal_len_bound { length (refusal_line refusal) ≤ max_length }
+    ensures short { length (refusal_line refusal) ≤ max_length }
 {
     let code = refusal.number();
     let first = word(b"refused", SPACE, out, 0);
@@ -91,7 +91,7 @@ pub fn write_refusal(refusal: Refusal, out: &mut [u8]) -> usize
 
 pub(crate) fn no_plan(out: &mut [u8]) -> usize
     ensures written { Written (answer_text (gives no_plan) [] [] []) 0 out.old out.new result }
-    ensures no_plan_len_bound { length (answer_text (gives no_plan) [] [] []) ≤ max_length }
+    ensures short { length (answer_text (gives no_plan) [] [] []) ≤ max_length }
 {
     word(b"no plan", LINE_FEED, out, 0)
 }
@@ -107,7 +107,7 @@ pub(crate) fn planned(
     ensures written { Written
         (answer_text (gives (Promise·planned counts)) lowest.now highest.now marks.now)
         0 out.old out.new result }
-    ensures marks_len_bound { length lowest.now ≤ limit → length
+    ensures short { length lowest.now ≤ limit → length
         (answer_text (gives (Promise·planned counts)) lowest.now highest.now
         marks.now) ≤ max_length }
 {
