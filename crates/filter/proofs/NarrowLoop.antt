@@ -1,12 +1,12 @@
 -- What a slot loses, and what is left of its range, for the functions of `filter::narrow`.
-use Prim.Native.Nat.{ℕ, suc, ◌+◌, ◌≤◌, ◌<◌}
+use Prim.Native.Nat.{ℕ, ◌+◌, ◌≤◌, ◌<◌}
 use native.Mathlib.Omega.{arith}
 use mathlib.Core.Bool.{Bool, true, false, cond, not}
 use mathlib.Core.List.{List}
 use mathlib.Core.Logic.{◌⊎◌, inl, inr}
 use mathlib.Core.Path.{◌≡◌, refl, sym, ap, ◌∙◌, subst}
 use borrow.Author.Tests.{eqb-false, not-true, not-false}
-use lib.Dec.{T, eqb}
+use lib.Dec.{eqb}
 use lib.IntN.{ℤ, pos, suc_ℤ, ◌+ℤ◌, +ℤ_one}
 use lib.ListN.{length, take, get_or, set, length-set}
 use lib.Seq.{take-set-lt, length-take-le, ext_get_or, get_or-set_other}

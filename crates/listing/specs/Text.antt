@@ -1,6 +1,6 @@
 -- The text of an answer, in bytes of ASCII (document 01, "What the plan printer writes").
 use Prim.Native.Char.{code}
-use Rattle.std.specs.Prelude.{ℕ, zero, suc, ◌+◌, ◌-◌, ◌*◌, ◌/◌, ◌%◌, ◌≤◌, cond, List, [], ◌∷◌, ◌++◌, ◌≡◌, eqb, ltb, ℤ, pos, negsuc, length, get_or}
+use Rattle.std.specs.Prelude.{ℕ, zero, suc, ◌+◌, ◌-◌, ◌*◌, ◌/◌, ◌%◌, ◌≤◌, cond, List, [], ◌∷◌, ◌++◌, ◌≡◌, eqb, ltb, ℤ, pos, negsuc, get_or}
 use Prim.Native.String.{String}
 use Prim.Native.String as string
 use Rattle.refusals.specs.Answer.{Answer, refuses, gives}

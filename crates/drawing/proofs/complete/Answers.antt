@@ -1,9 +1,9 @@
 -- `drawing::complete` meets its contract. The loop's invariant: to draw the slots from i on is to draw all (`LeftToDraw`).
-use Prim.Native.Nat.{ℕ, ◌-◌}
+use Prim.Native.Nat.{ℕ}
 use native.Mathlib.Omega.{arith}
 use lib.ListN.{length-replicate}
 use Rattle.settings.specs.Refusals.{places}
-use Rattle.drawing.proofs.CompleteLoop.{LeftToDraw, complete-start, complete-step, complete-end}
+use Rattle.drawing.proofs.CompleteLoop.{complete-start, complete-step, complete-end}
 use Rattle.drawing.proofs.complete.Goals as goal
 
 pub loop-i-init : goal.loop-i-init

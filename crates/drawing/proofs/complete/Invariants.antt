@@ -1,9 +1,6 @@
 -- `drawing::complete` meets its contract. The loop's invariant: to draw the slots from i on is to draw all (`LeftToDraw`).
-use Prim.Native.Nat.{ℕ, ◌-◌}
-use native.Mathlib.Omega.{arith}
-use lib.ListN.{length-replicate}
-use Rattle.settings.specs.Refusals.{places}
-use Rattle.drawing.proofs.CompleteLoop.{LeftToDraw, complete-start, complete-step, complete-end}
+use Prim.Native.Nat.{◌-◌}
+use Rattle.drawing.proofs.CompleteLoop.{LeftToDraw}
 use Rattle.drawing.proofs.complete.Given as goal
 
 abbrev pub invariant-loop-i : goal.invariant-loop-i

@@ -1,7 +1,7 @@
 -- `least::after_window` meets its contract. The loop's invariant: what comes after a window is filled from slot i on
 -- (`AfterFrom`).
 use native.Mathlib.Omega.{arith}
-use Rattle.least.proofs.AfterLoop.{AfterFrom, after-start, after-step, after-end}
+use Rattle.least.proofs.AfterLoop.{after-start, after-step, after-end}
 use Rattle.least.proofs.after_window.Goals as goal
 
 pub loop-i-init : goal.loop-i-init

@@ -1,7 +1,6 @@
 -- `least::after_window` meets its contract. The loop's invariant: what comes after a window is filled from slot i on
 -- (`AfterFrom`).
-use native.Mathlib.Omega.{arith}
-use Rattle.least.proofs.AfterLoop.{AfterFrom, after-start, after-step, after-end}
+use Rattle.least.proofs.AfterLoop.{AfterFrom}
 use Rattle.least.proofs.after_window.Given as goal
 
 abbrev pub invariant-loop-i : goal.invariant-loop-i

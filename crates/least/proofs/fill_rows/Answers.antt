@@ -1,12 +1,11 @@
 -- `least::fill_rows` meets its contract. The loop's invariant: the row is that of what comes after a window
 -- where v windows are left, and the window counts below v have been compared with the covered maximum, with the thrift
 -- so far (`RowsSoFar`).
-use Prim.Native.Nat.{◌-◌, ◌≤◌}
 use native.Mathlib.Omega.{arith}
 use mathlib.Core.Path.{◌≡◌}
 use lib.ListN.{length}
 use Rattle.settings.specs.Refusals.{places}
-use Rattle.least.proofs.RowLoops.{RowsSoFar, rows_start, rows_step, rows_end}
+use Rattle.least.proofs.RowLoops.{rows_start, rows_step, rows_end}
 use Rattle.least.proofs.fill_rows.Goals as goal
 use Rattle.least.proofs.fill_rows.Goals.{After-next_row-row}
 

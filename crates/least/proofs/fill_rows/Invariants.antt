@@ -2,11 +2,7 @@
 -- where v windows are left, and the window counts below v have been compared with the covered maximum, with the thrift
 -- so far (`RowsSoFar`).
 use Prim.Native.Nat.{◌-◌, ◌≤◌}
-use native.Mathlib.Omega.{arith}
-use mathlib.Core.Path.{◌≡◌}
-use lib.ListN.{length}
-use Rattle.settings.specs.Refusals.{places}
-use Rattle.least.proofs.RowLoops.{RowsSoFar, rows_start, rows_step, rows_end}
+use Rattle.least.proofs.RowLoops.{RowsSoFar}
 use Rattle.least.proofs.fill_rows.Given as goal
 
 abbrev pub invariant-loop-v : goal.invariant-loop-v

@@ -1,11 +1,9 @@
 -- `least::least_inside` meets its contract. The loop's invariant: what the window has found and
 -- covered, with what is to come, makes its least covered count (`Scan`).
-use Prim.Native.Nat.{◌-◌}
 use native.Mathlib.Omega.{arith}
 use mathlib.Core.Logic.{inl, inr}
 use borrow.Author.Tests.{ltb-true, ltb-false}
-use lib.ListN.{length}
-use Rattle.least.proofs.InsideLoop.{Scan, scan-start, scan_step, scan-end}
+use Rattle.least.proofs.InsideLoop.{scan-start, scan_step, scan-end}
 use Rattle.least.proofs.least_inside.Goals as goal
 
 pub loop-i-init : goal.loop-i-init

@@ -1,6 +1,6 @@
 -- `least::next_row` meets its contract. The loop's invariant: the row is filled from slot i on (`RowFrom`).
 use native.Mathlib.Omega.{arith}
-use Rattle.least.proofs.RowLoops.{RowFrom, row-start, row_step, row-end}
+use Rattle.least.proofs.RowLoops.{row-start, row_step, row-end}
 use Rattle.least.proofs.next_row.Goals as goal
 
 pub loop-i-init : goal.loop-i-init

@@ -1,6 +1,5 @@
 -- `least::next_row` meets its contract. The loop's invariant: the row is filled from slot i on (`RowFrom`).
-use native.Mathlib.Omega.{arith}
-use Rattle.least.proofs.RowLoops.{RowFrom, row-start, row_step, row-end}
+use Rattle.least.proofs.RowLoops.{RowFrom}
 use Rattle.least.proofs.next_row.Given as goal
 
 abbrev pub invariant-loop-i : goal.invariant-loop-i

@@ -1,17 +1,10 @@
 -- `filter::narrow::narrow` meets its contract. The loop's invariant: the ranges before slot i are
 -- cut, and the rest are as they were lent (`CutBefore`).
 use Prim.Native.Nat.{◌-◌, ◌≤◌}
-use native.Mathlib.Nat.{le_refl}
-use native.Mathlib.Omega.{arith}
-use mathlib.Core.Path.{◌≡◌, ◌∙◌}
 use lib.ListN.{take}
-use mir.Facts.{to_z-of_z}
-use mir.Syntax.{w32}
-use mir.Val.{SFits, of_z, to_z}
-use Rattle.filter.proofs.NarrowLoop.{CutBefore, cut-start, cut_step, cut-end, loses}
+use Rattle.filter.proofs.NarrowLoop.{CutBefore}
 use Rattle.rule.specs.ClassCodes.{decode_all}
 use Rattle.requests.specs.Promise.{lowest_after, highest_after}
-use Rattle.requests.specs.Request.{at}
 use Rattle.requests.specs.Solution.{loss}
 use Rattle.filter.proofs.narrow.narrow.Given as goal
 

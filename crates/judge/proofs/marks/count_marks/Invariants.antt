@@ -1,11 +1,9 @@
 -- `judge::marks::count_marks` meets its contract. The loop's invariant: each count is of the marks so far (`Tally`).
 use Prim.Native.Nat.{◌-◌, ◌≤◌}
-use native.Mathlib.Omega.{arith}
 use mathlib.Core.Bool.{not}
 use lib.Dec.{eqb}
 use lib.ListN.{length}
-use Rattle.rule.proofs.Tally.{Tally, tally-start, tally-step, tally-end}
-use Rattle.rule.specs.Rule.{windows, covered}
+use Rattle.rule.proofs.Tally.{Tally}
 use Rattle.judge.proofs.marks.count_marks.Given as goal
 
 abbrev pub invariant-loop-i : goal.invariant-loop-i

@@ -1,5 +1,4 @@
 -- `judge::marks::with_mark` meets its contract: an answer for each arm.
-use Rattle.facts.proofs.Tests.{rules}
 use Rattle.judge.proofs.marks.with_mark.Goals as goal
 
 pub returns-in-0 : goal.returns-in-0

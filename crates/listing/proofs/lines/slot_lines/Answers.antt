@@ -1,6 +1,5 @@
 -- `listing::lines::slot_lines` meets its contract. The loop's invariant: the lines from slot i on are left to write
 -- (`SlotsLeft`).
-use Prim.Native.Nat.{◌-◌}
 use native.Mathlib.Omega.{arith}
 use lib.IntN.{pos}
 use lib.ListN.{get_or}
@@ -8,7 +7,7 @@ use mir.Facts.{to_z-of_z}
 use mir.Syntax.{w32}
 use mir.Val.{SFits}
 use Rattle.listing.proofs.Lengths.{slot_line-short}
-use Rattle.listing.proofs.SlotLinesLoop.{SlotsLeft, lines_start, lines_step, lines_end, all_short}
+use Rattle.listing.proofs.SlotLinesLoop.{lines_start, lines_step, lines_end, all_short}
 use Rattle.buffer.proofs.Written.{left-length}
 use Rattle.listing.proofs.lines.slot_lines.Goals as goal
 

@@ -1,5 +1,4 @@
 -- `listing::put::signed` meets its contract: what is cast is the magnitude, or one less where x is negative (`Signs`).
-use native.Mathlib.Omega.{arith}
 use Rattle.facts.proofs.Signs.{Negative, NotNegative, negative, not_negative}
 use Rattle.listing.proofs.Signs.{with-minus, without-minus}
 use Rattle.buffer.proofs.Written.{written-append}

@@ -1,11 +1,8 @@
 -- `listing::put::word` meets its contract. The loop's invariant: the bytes from number i on and the byte that ends
 -- the field are left to write (`LeftToWrite`).
-use Prim.Native.Nat.{◌-◌}
 use native.Mathlib.Omega.{arith}
-use mathlib.Core.List.{[], ◌∷◌, ◌++◌}
 use mathlib.Core.Path.{◌∙◌}
-use lib.ListN.{length, drop}
-use Rattle.buffer.proofs.Written.{LeftToWrite, left-start, left-byte, left_end, left-length, written-length}
+use Rattle.buffer.proofs.Written.{left-start, left-byte, left_end, left-length, written-length}
 use Rattle.listing.proofs.put.word.Goals as goal
 
 pub loop-i-init : goal.loop-i-init

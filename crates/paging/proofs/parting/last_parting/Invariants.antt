@@ -1,8 +1,6 @@
 -- `paging::parting::last_parting` meets its contract. The loop's invariant: no plan parts at a later slot.
-use native.Mathlib.Omega.{arith}
-use mathlib.Core.Path.{◌≡◌}
 use lib.ListN.{length}
-use Rattle.paging.proofs.PartingLoops.{NoneFrom, slot-start, slot_step, slot-found}
+use Rattle.paging.proofs.PartingLoops.{NoneFrom}
 use Rattle.paging.specs.Parting.{parts, partings}
 use Rattle.paging.proofs.parting.last_parting.Given as goal
 

@@ -1,6 +1,6 @@
 -- `paging::parting::parted` meets its contract. The loop's invariant: the front is filled with the given marks as far as
 -- slot i.
-use Prim.Native.Nat.{ℕ, ◌-◌, ◌≤◌}
+use Prim.Native.Nat.{ℕ}
 use native.Mathlib.Numerals.{add-one}
 use native.Mathlib.Omega.{arith}
 use mathlib.Core.List.{[], ◌∷◌, ◌++◌}
@@ -8,7 +8,7 @@ use mathlib.Core.Path.{◌≡◌, refl, ap, ◌∙◌}
 use lib.ListN.{length-set, length-replicate}
 use lib.Seq.{take-suc-set}
 use Rattle.paging.specs.Paging.{page_limit}
-use Rattle.paging.proofs.Filling.{FilledTo, filling-start, filling_step}
+use Rattle.paging.proofs.Filling.{filling-start, filling_step}
 use Rattle.paging.proofs.parting.parted.Goals as goal
 
 pub loop-i-init : goal.loop-i-init

@@ -1,8 +1,6 @@
 -- `paging::parting::parting_mark` meets its contract. The loop's invariant: no plan parts with a smaller mark.
-use Prim.Native.Nat.{◌-◌}
 use native.Mathlib.Omega.{arith}
-use Rattle.paging.proofs.PartingLoops.{NoneBelow, mark-start, mark-step}
-use Rattle.paging.specs.Parting.{parts}
+use Rattle.paging.proofs.PartingLoops.{mark-start, mark-step}
 use Rattle.paging.proofs.parting.parting_mark.Goals as goal
 
 pub loop-mark-init : goal.loop-mark-init

@@ -1,7 +1,6 @@
 -- `paging::parting::parting_mark` meets its contract. The loop's invariant: no plan parts with a smaller mark.
 use Prim.Native.Nat.{◌-◌}
-use native.Mathlib.Omega.{arith}
-use Rattle.paging.proofs.PartingLoops.{NoneBelow, mark-start, mark-step}
+use Rattle.paging.proofs.PartingLoops.{NoneBelow}
 use Rattle.paging.specs.Parting.{parts}
 use Rattle.paging.proofs.parting.parting_mark.Given as goal
 

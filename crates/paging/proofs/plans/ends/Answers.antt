@@ -1,5 +1,4 @@
 -- `paging::plans::ends` meets its contract. The loop's invariant: the loads are filled with the ends as far as slot i.
-use Prim.Native.Nat.{◌-◌}
 use native.Mathlib.Omega.{arith}
 use mathlib.Core.Path.{◌≡◌, sym, ◌∙◌}
 use lib.IntN.{ℤ, pos}
@@ -13,7 +12,7 @@ use Rattle.requests.specs.Request.{at, paired}
 use Rattle.rule.specs.Ranges.{ends_for}
 use Rattle.paging.specs.Paging.{page_limit}
 use Rattle.paging.proofs.Ends.{ends-length, ends_at}
-use Rattle.paging.proofs.Filling.{FilledTo, filling-start, filling_step}
+use Rattle.paging.proofs.Filling.{filling-start, filling_step}
 use Rattle.paging.proofs.plans.ends.Goals as goal
 
 pub loop-i-init : goal.loop-i-init
