@@ -29,28 +29,27 @@ left (suc r) (suc b) = r
 module _ (k : ℤ) (len h : ℕ) where
   -- a watch that opened n windows, with r slots left to the active one, and b bridges if r is not 0
   data Stands : (n r b : ℕ) → Watch → Type 0 where
-    stands : {t n r b : ℕ} →
-        Stands n r b
-        (record { k = k; len = len; h = h; taken = t; windows = n; room = r; spare = cond (eqb r 0) 0 b })
+    stands : {t n r b s : ℕ} → s ≡ cond (eqb r 0) 0 b →
+        Stands n r b (record { k = k; len = len; h = h; taken = t; windows = n; room = r; spare = s })
 
   stands-initial : Stands 0 0 0 (initial k len h)
-  stands-initial = stands
+  stands-initial = stands refl
 
   -- where the watch stands after a load
   over-opens : {n b : ℕ} {w : Watch} {x : ℤ} → Stands n 0 b w → k <ℤ x →
       Stands (n + 1) (len - 1) h (after w x)
   unfolding after after_over
-  over-opens stands l = simp (lt→over l) stands
+  over-opens (stands e) l = simp (lt→over l) (stands refl)
 
   over-uses : {n r b : ℕ} {w : Watch} {x : ℤ} → Stands n (suc r) b w → k <ℤ x → Stands n r b (after w x)
   unfolding after after_over
-  over-uses stands l = simp (lt→over l, sub-one, eqb-suc-zero) stands
+  over-uses (stands e) l = simp (lt→over l, e, sub-one, eqb-suc-zero) (stands refl)
 
   under : {n : ℕ} {w : Watch} {x : ℤ} (r b : ℕ) → Stands n r b w → x ≤ℤ k → Stands n (left r b) (pred b) (after w x)
   unfolding after after_under
-  under zero b stands l = simp (le→under l) stands
-  under (suc r) zero stands l = simp (le→under l, eqb-suc-zero) stands
-  under (suc r) (suc b) stands l = simp (le→under l, sub-one, eqb-suc-zero) stands
+  under zero b (stands e) l = simp (le→under l, e) (stands refl)
+  under (suc r) zero (stands e) l = simp (le→under l, e, eqb-suc-zero) (stands refl)
+  under (suc r) (suc b) (stands e) l = simp (le→under l, e, sub-one, eqb-suc-zero) (stands refl)
 
   -- a watch with r slots and b bridges left, beside a plan at the same slot: it has at least as
   -- much left as the plan's window, or it may open d = 1 window more than the rest of the plan
@@ -60,11 +59,12 @@ module _ (k : ℤ) (len h : ℕ) where
     ahead : {c : Bool} {r' b' : ℕ} → r' ≤ len - 1 → b' ≤ h → Beside r b 1 (on c r' b')
 
   -- the watch opens at most d windows more than the rest of the plan has
-  count-le-plan : {n d : ℕ} {w : Watch} {st : State} {xs : List ℤ} {ms : List ℕ} →
-      PlanBy (carries k) (shaped len h) st xs ms → (r b : ℕ) → Stands n r b w → Beside r b d st →
+  count-le-plan : {st : State} {xs : List ℤ} {ms : List ℕ} →
+      PlanBy (carries k) (shaped len h) st xs ms → (r b : ℕ) → {n d : ℕ} {w : Watch} → Stands n r b w →
+      Beside r b d st →
       (state_after w xs).windows ≤ n + windows ms + d
   unfolding state_after goes_with windows count_if
-  count-le-plan done r b stands outside = omega arith
+  count-le-plan done r b (stands e) outside = omega arith
   count-le-plan (skip m p) r b s outside = count-le-plan p _ _ (under r b s (carried_under 0 refl m)) outside
   count-le-plan (opens m p) zero b s outside =
       let q = count-le-plan p _ _ (over-opens s (carried-over 1 refl m)) (level (le_refl _) (le_refl _)) in
@@ -130,7 +130,7 @@ module _ (k : ℤ) (len h : ℕ) where
 
   met : (xs : List ℤ) → Meets xs
   unfolding state_after windows count_if
-  met [] n r b w stands = record { marks = []; plan = close done; same = omega arith }
+  met [] n r b w (stands e) = record { marks = []; plan = close done; same = omega arith }
   met (x ∷ xs) n r b w s = one_more (met xs) (lt-or-le k x) n r b w s
 
   -- a window without a slot left has to close

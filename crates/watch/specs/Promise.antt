@@ -2,7 +2,7 @@
 -- the count is. Start.antt has what a start gives.
 use Rattle.std.specs.Prelude.{ℕ, suc, ◌-◌, ◌<◌, min, Bool, true, cond, List, [], ◌∷◌, ◌++◌, ◌↔◌, ◌⊎◌, ◌≡◌, ltb, ℤ, pos, length, take}
 use Rattle.std.proofs.Math.Option.{Option, none, some}
-use Rattle.refusals.specs.Answer.{Answer, refuses, gives, answer}
+use Rattle.refusals.specs.Answer.{Answer, refuses, gives}
 use Rattle.refusals.specs.declared.Refusal.{Refusal}
 use Rattle.refusals.specs.declared.Refusal.TheVariants.{Unreached, Full}
 use Rattle.rule.specs.Rule.{legal, shaped, windows, LeastOver}

@@ -6,7 +6,7 @@ use Rattle.watch.proofs.StateTests.{sums-bounded}
 use Rattle.facts.proofs.Tests.{false-iff}
 use Rattle.watch.specs.States.{max_taken}
 use Rattle.watch.proofs.Watch.active.Goals as goal
-use Rattle.watch.proofs.Watch.active.Goals.{After-spacing, After-struct-known4, Start}
+use Rattle.watch.proofs.Watch.active.Goals.{After-spacing}
 
 pub returns-then-self-eq0 : goal.returns-then-self-eq0
 returns-then-self-eq0 c = false-iff (λ a. omega (arith, a.opened))
@@ -17,20 +17,18 @@ returns-then-self c = false-iff (λ a. omega (arith, a.slots))
 pub returns-then-self-2 : goal.returns-then-self-2
 returns-then-self-2 c = false-iff (λ a. omega (arith, a.bridges))
 
-abbrev entry : After-struct-known4 → Start
-entry c = c.before
+bounded : (c : After-spacing) → (c.args.self.windows - 1) * c.spacing.result ≤ max_taken * limit
+bounded c = rw c.spacing.ensures (sums-bounded c.requires.0 (c.args.self.windows - 1) (omega arith))
 
-bounded : (c : After-spacing) → ((entry c.before).args.self.windows - 1) * c.spacing.result ≤ max_taken * limit
-bounded c =
-    rw c.spacing.ensures
-    (sums-bounded (entry c.before).requires.0 ((entry c.before).args.self.windows - 1) (omega arith))
+pub overflow_mul-before : goal.overflow_mul-before
+overflow_mul-before c = omega (arith, bounded (goal.at.overflow_mul-before c).After-spacing)
 
 pub fits-requires : goal.fits-requires
 fits-requires c = bounded (goal.at.fits-requires c).After-spacing
 
 pub returns : goal.returns
 returns c =
-    let (to, from) = rw c.spacing.ensures at c.fits2.ensures in (
+    let (to, from) = rw c.spacing.ensures at c.fits.ensures in (
       (λ e.
           let (used, each) = to e in
           record { opened = omega arith; slots = omega arith; bridges = omega arith; used = used; each = each }),

@@ -1,4 +1,5 @@
 -- `watch::Watch::after` meets its contract: by whether the load is over or under.
+use Rattle.std.proofs.Common.{rules}
 use mathlib.Core.Path.{◌≡◌, sym, ◌∙◌}
 use mir.Facts.{to_z-of_z}
 use mir.Syntax.{w32}
@@ -10,8 +11,7 @@ use Rattle.watch.proofs.Watch.after.Goals.{After-over}
 
 side : (c : After-over) → let args = c.args in c.over.result ≡ over args.self.k args.load
 side c =
-    let k-fits : SFits w32 c.args.self.k =
-    record { sfits = c.struct_told-1.given.0.1 } in
+    let k-fits : SFits w32 c.args.self.k = search rules in
     simp (to_z-of_z, k-fits, c.ranges.load) at c.over.ensures
 
 pub returns-then-over : goal.returns-then-over

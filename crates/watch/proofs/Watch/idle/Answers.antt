@@ -7,6 +7,10 @@ use Rattle.watch.proofs.Watch.idle.Goals as goal
 pub returns-then-self-gt0 : goal.returns-then-self-gt0
 returns-then-self-gt0 c = false-iff (λ i. omega (arith, i.bridges))
 
+pub overflow_mul-result : goal.overflow_mul-result
+overflow_mul-result c =
+    rw c.spacing.ensures (omega (arith, sums-bounded c.requires.0 c.args.self.windows (omega arith)))
+
 pub returns : goal.returns
 returns c =
     rw c.spacing.ensures

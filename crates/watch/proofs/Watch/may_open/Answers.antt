@@ -1,5 +1,6 @@
 -- `watch::Watch::may_open` meets its contract: by whether a window was opened.
 use mathlib.Core.Logic.{inl, inr, ⊎_elim}
+use Rattle.std.proofs.Common.{rules}
 use mathlib.Core.Path.{◌≡◌, refl}
 use mir.Facts.{to_z-of_z}
 use mir.Syntax.{w32}
@@ -14,8 +15,7 @@ returns-then-self-eq0 c = (λ e. inl c.if-self-eq0.true, λ o. refl)
 
 side : (c : After-over) → c.over.result ≡ over c.args.self.k highest
 side c =
-    let k-fits : SFits w32 c.args.self.k =
-    record { sfits = c.struct_told-1.given.0.1 } in
+    let k-fits : SFits w32 c.args.self.k = search rules in
     simp (to_z-of_z, k-fits) at c.over.ensures
 
 pub returns : goal.returns

@@ -1,10 +1,10 @@
 -- `watch::Watch::reached` meets its contract: its tests add up to `Reached` (`StateTests`).
+use Rattle.std.proofs.Common.{rules}
 use native.Mathlib.Omega.{arith}
 use mathlib.Core.Bool.{true, true≢false}
 use mathlib.Core.Logic.{◌⊎◌}
 use mathlib.Core.Option.{some-ne-none}
 use mathlib.Core.Path.{◌≡◌, ap, sym, ◌∙◌}
-use borrow.Author.Tests.{not-true, not-false}
 use mir.Syntax.{w32}
 use mir.Val.{SFits}
 use Rattle.refusals.specs.Answer.{meaning}
@@ -16,16 +16,9 @@ use Rattle.facts.proofs.Tests.{false-iff}
 use Rattle.watch.specs.States.{start_refusal, Reached}
 use Rattle.watch.specs.Tested.{highest, Bounded}
 use Rattle.watch.proofs.Watch.reached.Goals as goal
-use Rattle.watch.proofs.Watch.reached.Goals.{After-check-shape, After-enum-told2, Else-not-may_open, Else-self, Start}
+use Rattle.watch.proofs.Watch.reached.Goals.{After-check_shape-checked, Else-not-may_open, Else-self}
 
--- the entry of the function, seen from where the settings have passed; and that point, seen from where the counts have
-abbrev entry : After-enum-told2 → Start
-entry c = c.before
-
-abbrev passed : Else-self → After-enum-told2
-passed c = c.before
-
-checks : (c : After-check-shape) → meaning c.check_shape-checked.result
+checks : (c : After-check_shape-checked) → meaning c.check_shape-checked.result
     ≡ start_refusal c.args.self.len c.args.self.h
 checks c = c.check_shape-checked.ensures ∙ ap (shape_refusal limit) c.shape.ensures
 
@@ -35,7 +28,8 @@ returns-in-Refused c = false-iff refuses
     refuses : Reached c.args.self → ⊥
     refuses re =
         some-ne-none _
-        (sym (ap meaning c.enum_told-1.given.1) ∙ checks (goal.at.returns-in-Refused c).After-check-shape ∙ (reached→tested _ re).accepted)
+        (sym (ap meaning c.in-Refused.is) ∙ checks (goal.at.returns-in-Refused c).After-check_shape-checked
+        ∙ (reached→tested _ re).accepted)
 
 pub returns-then-self-gt-MAX_TAKEN : goal.returns-then-self-gt-MAX_TAKEN
 returns-then-self-gt-MAX_TAKEN c = false-iff (λ re. omega (arith, (reached→tested _ re).few))
@@ -49,22 +43,22 @@ returns-then-not-may_open c = false-iff unopened
     unopened :
         Reached c.args.self → ⊥
     unopened re =
-        true≢false (sym (c.may_open.ensures.1 (reached→tested _ re).opens) ∙ not-true _ c.if-not-may_open.true)
+        true≢false (sym (c.may_open.ensures.1 (reached→tested _ re).opens) ∙ c.if-not-may_open.true)
 
-bounded : (c : Else-self) → Bounded (entry (passed c)).args.self
+bounded : (c : Else-self) → Bounded c.args.self
 bounded c =
     record {
-      accepted = sym (checks (passed c).before) ∙ ap meaning (passed c).enum_told-in_default-1.given.1;
+      accepted = sym (c.check_shape-checked.ensures ∙ ap (shape_refusal limit) c.shape.ensures) ∙ ap meaning c.in_default.is;
       counted = c.if-self.false;
       few = c.if-self-gt-MAX_TAKEN.false;
     }
 
-opens : (c : Else-not-may_open) → let w = (entry (passed c.before)).args.self in
+opens : (c : Else-not-may_open) → let w = c.args.self in
     (w.windows ≡ 0) ⊎ (over w.k highest ≡ true)
-opens c = c.may_open.ensures.0 (not-false _ c.if-not-may_open.false)
+opens c = c.may_open.ensures.0 (c.if-not-may_open.false)
 
-fits : (c : Else-self) → SFits w32 (entry (passed c)).args.self.k
-fits c = record { sfits = (entry (passed c)).well-formed.0.1.1.0.1 }
+fits : (c : Else-self) → SFits w32 c.args.self.k
+fits c = search rules
 
 pub idle-requires : goal.idle-requires
 idle-requires c = (bounded (goal.at.idle-requires c).Else-self, c.if-self-eq0.true)

@@ -1,11 +1,10 @@
 -- `watch::Watch::run` meets its contract: its loop runs what is left of the loads (`RunLoop`).
-use Prim.Native.Nat.{◌-◌}
 use lib.IntN.{pos}
-use lib.ListN.{length, get_or}
+use lib.ListN.{get_or}
 use mir.Facts.{to_z-of_z}
 use mir.Syntax.{w32}
 use mir.Val.{SFits}
-use Rattle.watch.proofs.RunLoop.{LeftToRun, run-start, run_step, run-stop, run_end}
+use Rattle.watch.proofs.RunLoop.{run-start, run_step, run-stop, run_end}
 use Rattle.watch.specs.Promise.{Steps}
 use Rattle.watch.proofs.Watch.run.Goals as goal
 use Rattle.watch.proofs.Watch.run.Goals.{After-step-stepped}
@@ -15,7 +14,7 @@ loop-i-init c = run-start _ _
 
 stepped : (c : After-step-stepped) →
     let point = c.before in
-    Steps point.loop-i.watch-1 (get_or point.args.loads.now point.loop-i.i (pos 0)) c.step-stepped.result
+    Steps point.loop-i.watch (get_or point.args.loads.now point.loop-i.i (pos 0)) c.step-stepped.result
 stepped c =
     let point = c.before in
     let x : SFits w32 (get_or point.args.loads.now point.loop-i.i (pos 0)) =
@@ -26,13 +25,13 @@ pub returns-in-Refused : goal.returns-in-Refused
 returns-in-Refused c =
     let s = c.before in
     let i = s.before in
-    run-stop _ _ _ _ i.loop-i.invariant _ i.loop-i-test.true (stepped (goal.at.returns-in-Refused c).After-step-stepped) c.answer-1.given.1
+    run-stop _ _ _ _ i.loop-i.invariant _ i.loop-i-test.true (stepped (goal.at.returns-in-Refused c).After-step-stepped) c.in-Refused.is
 
 pub loop-i-preserved : goal.loop-i-preserved
 loop-i-preserved c =
     let s = c.before in
     let i = s.before in
-    run_step _ _ _ _ i.loop-i.invariant _ i.loop-i-test.true (stepped (goal.at.loop-i-preserved c).After-step-stepped) c.enum_told-1.given.1
+    run_step _ _ _ _ i.loop-i.invariant _ i.loop-i-test.true (stepped (goal.at.loop-i-preserved c).After-step-stepped) c.in_default.is
 
 pub returns : goal.returns
 returns c = run_end _ _ _ _ c.loop-i.invariant c.loop-i-test.false

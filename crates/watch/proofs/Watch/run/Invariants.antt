@@ -1,12 +1,7 @@
 -- `watch::Watch::run` meets its contract: its loop runs what is left of the loads (`RunLoop`).
 use Prim.Native.Nat.{◌-◌}
-use lib.IntN.{pos}
-use lib.ListN.{length, get_or}
-use mir.Facts.{to_z-of_z}
-use mir.Syntax.{w32}
-use mir.Val.{SFits}
-use Rattle.watch.proofs.RunLoop.{LeftToRun, run-start, run_step, run-stop, run_end}
-use Rattle.watch.specs.Promise.{Steps}
+use lib.ListN.{length}
+use Rattle.watch.proofs.RunLoop.{LeftToRun}
 use Rattle.watch.proofs.Watch.run.Given as goal
 
 abbrev pub invariant-loop-i : goal.invariant-loop-i

@@ -3,7 +3,6 @@ use Prim.Native.Nat.{◌<◌}
 use native.Mathlib.Omega.{arith}
 use mathlib.Core.Bool.{true≢false}
 use mathlib.Core.Path.{refl, sym, ◌∙◌}
-use borrow.Author.Tests.{not-true, not-false}
 use mir.Facts.{to_z-of_z}
 use mir.Syntax.{w32}
 use mir.Val.{SFits}
@@ -18,10 +17,10 @@ pub returns-then-not-reached : goal.returns-then-not-reached
 returns-then-not-reached c = refuses-32 _ _ _ unreached c.refused.ensures.0 c.refused.ensures.1
   where
     unreached : Reached c.args.self → ⊥
-    unreached re = true≢false (sym (c.reached.ensures.1 re) ∙ not-true _ c.if-not-reached.true)
+    unreached re = true≢false (sym (c.reached.ensures.1 re) ∙ c.if-not-reached.true)
 
 reached : (c : Else-not-reached) → Reached c.args.self
-reached c = c.reached.ensures.0 (not-false _ c.if-not-reached.false)
+reached c = c.reached.ensures.0 c.if-not-reached.false
 
 pub returns-then-self-eq-MAX_TAKEN : goal.returns-then-self-eq-MAX_TAKEN
 returns-then-self-eq-MAX_TAKEN c =
@@ -29,7 +28,7 @@ returns-then-self-eq-MAX_TAKEN c =
     refuses-33 _ _ _ (reached (goal.at.returns-then-self-eq-MAX_TAKEN c).Else-not-reached) c.if-self-eq-MAX_TAKEN.true same is
 
 more : (c : Else-self-eq-MAX_TAKEN) → c.args.self.taken < max_taken
-more c = omega (arith, (reached→tested _ (reached c.before)).few, c.if-self-eq-MAX_TAKEN.false)
+more c = omega (arith, (reached→tested _ (c.reached.ensures.0 c.if-not-reached.false)).few, c.if-self-eq-MAX_TAKEN.false)
 
 pub after-watch-requires : goal.after-watch-requires
 after-watch-requires c = tested→ready (reached→tested _ (reached (goal.at.after-watch-requires c).Else-not-reached)) (more (goal.at.after-watch-requires c).Else-self-eq-MAX_TAKEN)
