@@ -159,7 +159,7 @@ module _ (k : ℤ) (shape : Shape) (yc zc : ℕ) (X : List ℤ) (S : List Sequen
             let first = starts free m hs in
             let none : 0 ≡ q = omega (arith, first, clear s m (omega (arith, first))) in
             subst (λ q. Outside q l here) none
-            (opened s m first (omega (arith, hs)) (after o i s _ _ _ (under-way-begins (more hl f) m first)))
+            (opened s m first (omega (arith, hs)) (after o i s _ _ _ (under-way-begins (more hl refl f) m first)))
         by (inr x) =
             let t = o (q - 1) (free-after-under x free) (λ s m e. omega (arith, clear s m (omega arith))) in
             record { marks = 0 ∷ t.marks; plan = skip {q = q} (carry-under 0 refl x) t.plan; members = t.members }
@@ -215,9 +215,9 @@ module _ (k : ℤ) (shape : Shape) (yc zc : ℕ) (X : List ℤ) (S : List Sequen
     (λ q free clear. record { marks = []; plan = done; members = λ t m. elim m [ ] }),
     (λ c s n r b y. absurd (omega (arith, y.last, within y.member))),
   )
-  marks-from (more hl f) =
+  marks-from (more hl is f) =
       let (o, i) = marks-from f in
-      (out_step hl f o i, in_step hl f o i)
+      rw is (out_step hl f o i, in_step hl f o i)
 
   found : Outside 0 0 X
   found =

@@ -56,10 +56,10 @@ module _ (k : ℤ) (shape : Shape) (X : List ℤ) where
     inside : i + length (rest ms) < length X
     ends : Over (i + length (rest ms))
 
-  rests : {c : Bool} {i r b : ℕ} {xs : List ℤ} {ms : List ℕ} →
-      PlanBy (carries k) shape (on c r b) xs ms → From X (suc i) xs → i < length X → Closes c i → Rest i r b xs ms
+  rests : {c : Bool} {r b : ℕ} {xs : List ℤ} {ms : List ℕ} → PlanBy (carries k) shape (on c r b) xs ms →
+      {i : ℕ} → From X (suc i) xs → i < length X → Closes c i → Rest i r b xs ms
   unfolding rest unders goes_with
-  rests {i = i} (close p) f hi (over_slot o) =
+  rests (close p) {i} f hi (over_slot o) =
       let n = rest-nil k shape p in
       record {
         slots = omega (arith, n);
@@ -67,9 +67,9 @@ module _ (k : ℤ) (shape : Shape) (X : List ℤ) where
         inside = omega (arith, n);
         ends = subst Over (omega (arith, n)) o;
       }
-  rests {i = i} (longer {ms = ms} g p) (more {xs = xs} hl f) hi c =
+  rests (longer {ms = ms} g p) {i} (more {xs = xs} hl is f) hi c =
       let o = carried-over 2 refl g in
-      let t = rests p f hl (over_slot o) in
+      let t = rests p f hl (over_slot (rw is at o)) in
       let u = unders-over (take (length (rest ms)) xs) o in
       record {
         slots = omega (arith, t);
@@ -77,7 +77,7 @@ module _ (k : ℤ) (shape : Shape) (X : List ℤ) where
         inside = omega (arith, t);
         ends = subst Over (omega arith) t.ends;
       }
-  rests {i = i} (bridged {ms = ms} g p) (more {xs = xs} hl f) hi c =
+  rests (bridged {ms = ms} g p) {i} (more {xs = xs} hl is f) hi c =
       let t = rests p f hl a_bridge in
       let u = unders-under (take (length (rest ms)) xs) (carried_under 3 refl g) in
       record {
@@ -187,8 +187,8 @@ module _ (k : ℤ) (shape : Shape) (X : List ℤ) where
         number = rw (same, none-opens) d.number;
       }
 
-  draws-from : {st : State} {l : ℕ} {xs : List ℤ} {ms : List ℕ} → PlanBy (carries k) shape st xs ms →
-      From X l xs → DrawnFrom (owed_by shape.settle st) l ms
+  draws-from : {st : State} {xs : List ℤ} {ms : List ℕ} → PlanBy (carries k) shape st xs ms →
+      {l : ℕ} → From X l xs → DrawnFrom (owed_by shape.settle st) l ms
   unfolding rest sequences_of windows covered count_if goes_with
   draws-from done (none e) =
       record {
@@ -200,7 +200,7 @@ module _ (k : ℤ) (shape : Shape) (X : List ℤ) where
         number = refl;
       }
   draws-from (close p) f = draws-from p f
-  draws-from (skip {ms = ms} g p) (more {l} hl f) =
+  draws-from (skip {ms = ms} g p) (more {l} hl is f) =
       let d = draws-from p f in
       let n = rest-nil k shape p in
       let S = sequences_of (suc l) ms in
@@ -208,18 +208,18 @@ module _ (k : ℤ) (shape : Shape) (X : List ℤ) where
         kept = later (omega (arith, n)) S d.kept;
         disjoint = d.disjoint;
         settled = d.settled;
-        cover = cover-cons S S (λ o. clash_ℤ o (carried_under 0 refl g)) (λ j. covered-after-0 l _ S j n) d.cover;
+        cover = cover-cons S S (λ o. clash_ℤ o (rw is at (carried_under 0 refl g))) (λ j. covered-after-0 l _ S j n) d.cover;
         total = omega (arith, n, d.total);
         number = d.number;
       }
-  draws-from (opens {ms = ms} g p) (more {l} hl f) =
+  draws-from (opens {ms = ms} g p) (more {l} hl is f) =
       let d = draws-from p f in
-      let o = carried-over 1 refl g in
+      let o = rw is at (carried-over 1 refl g) in
       let n = length (rest ms) in
       let S = sequences_of (suc l) ms in
       let s : Sequence = record { first = l; last = l + n } in
       record {
-        kept = (opened ms (more hl f) o (rests p f hl (over_slot o)), later (omega arith) S d.kept);
+        kept = (opened ms (more hl refl f) o (rests p f hl (over_slot o)), later (omega arith) S d.kept);
         disjoint = (
           each_to _ (DisjointPair s) (λ t w j hs ht. absurd (omega (arith, w.first_from, hs, ht))) S
               d.kept,
@@ -230,8 +230,8 @@ module _ (k : ℤ) (shape : Shape) (X : List ℤ) where
         total = omega (arith, d.total);
         number = ap suc d.number;
       }
-  draws-from (longer {ms = ms} g p) (more hl f) = extended 2 ms refl refl refl refl (draws-from p f)
-  draws-from (bridged {ms = ms} g p) (more hl f) = extended 3 ms refl refl refl refl (draws-from p f)
+  draws-from (longer {ms = ms} g p) (more hl is f) = extended 2 ms refl refl refl refl (draws-from p f)
+  draws-from (bridged {ms = ms} g p) (more hl is f) = extended 3 ms refl refl refl refl (draws-from p f)
 
   draws-nonzero : {ms : List ℕ} → PlanBy (carries k) shape (out 0) X ms → Draws k (nonzero shape) X ms
   draws-nonzero {ms} p =

@@ -3,7 +3,7 @@ use Prim.Native.Nat.{ℕ, ◌+◌, ◌≤◌, ◌<◌}
 use native.Mathlib.Omega.{arith}
 use mathlib.Core.List.{List, [], ◌∷◌, map}
 use mathlib.Core.Path.{refl, sym, subst}
-use lib.IntN.{ℤ, pos}
+use lib.IntN.{pos}
 use lib.Signed.{lt_z_yes, ◌<ℤ◌}
 use Rattle.rule.specs.Rule.{over, goes_with, agrees, follows, ordered, rest, beyond, clear, count_if, keeps}
 use Rattle.rule.specs.Rule.{each_window, legal_by, shaped, windows, covered}
