@@ -26,6 +26,7 @@ bytes-little : (size : ℕ) (l : List ℕ) → Bytes l → size ≤ length l →
     bytes size (little_endian (take size l)) ≡ take size l
 unfolding bytes little_endian
 bytes-little zero l f bound = refl
+bytes-little (suc size) [] f bound = elim bound [ ]
 bytes-little (suc size) (b ∷ l) (byte_fits, f) bound =
     let low : (b + 256 * little_endian (take size l)) % 256 ≡ b = omega arith in
     let rest : (b + 256 * little_endian (take size l)) / 256 ≡ little_endian (take size l) = omega arith in

@@ -59,6 +59,8 @@ from-record : (i : ℕ) (rs : List Range) (d : Range) (rest : List ℕ) → i < 
     × (drop (8 * i) (flat_map record_bytes rs ++ rest)
     ≡ bytes 4 (bits (get_or rs i d).lowest) ++ (bytes 4 (bits (get_or rs i d).highest) ++ more))
 unfolding flat_map record_bytes bytes
+from-record zero [] d rest bound = elim bound [ ]
+from-record (suc i) [] d rest bound = elim bound [ ]
 from-record zero (r ∷ rs) d rest bound = (flat_map record_bytes rs ++ rest, refl)
 from-record (suc i) (r ∷ rs) d rest bound =
     let (more, e) = from-record i rs d rest (omega arith) in
@@ -70,6 +72,7 @@ from-record (suc i) (r ∷ rs) d rest bound =
 
 loads-at : (rs : List Range) (i : ℕ) (d : Range) → i < length rs → FitRanges rs →
     SFits w32 (get_or rs i d).lowest × SFits w32 (get_or rs i d).highest
+loads-at [] i d bound _ = elim bound [ ]
 loads-at (r ∷ rs) zero d bound (low, high, fits) = (low, high)
 loads-at (r ∷ rs) (suc i) d bound (low, high, fits) = loads-at rs i d (omega arith) fits
 

@@ -19,6 +19,7 @@ length-tabulate (suc n) f = rw (length-append (tabulate n f) (f n ∷ []), lengt
 
 pub tabulate-at : {A : Type 0} (n i : ℕ) (f : ℕ → A) (d : A) → i < n → get_or (tabulate n f) i d ≡ f i
 unfolding tabulate
+tabulate-at {A = A} zero i f d bound = elim bound [ ]
 tabulate-at (suc n) i f d bound =
     ⊎_elim
     (λ e. rw e (get_or_at (tabulate n f) (f n) [] d n (length-tabulate n f)))

@@ -1,7 +1,7 @@
 -- Form 1 as document 01 lays it out ("Form 1, on the card"): a free note, n records, the trailer. `Form1` reads a
 -- file from its end; here a file is encoded from its front. The two agree in both directions (proofs/ReadBack.antt,
 -- proofs/OnlyEncoded.antt).
-use Rattle.std.specs.Prelude.{ℕ, zero, suc, ◌+◌, ◌-◌, ◌*◌, ◌/◌, ◌%◌, ◌≤◌, ◌<◌, ◌≡◌, ℤ, pos, negsuc, length, get_or}
+use Rattle.std.specs.Prelude.{ℕ, zero, suc, ◌-◌, ◌*◌, ◌/◌, ◌%◌, ◌≤◌, ◌<◌, ◌≡◌, ℤ, pos, negsuc, length, get_or}
 use mathlib.Core.List.{List, [], ◌∷◌, ◌++◌, flatten, flat_map}
 use Rattle.std.proofs.Math.Option.{none}
 use Rattle.std.specs.Int.{w32}

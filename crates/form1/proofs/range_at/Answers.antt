@@ -26,8 +26,8 @@ pub returns : goal.returns
 unfolding range_at
 returns c =
     let args = c.args in
-    let lowest : SFits w32 c.signed_at.result = record { sfits = c.signed_at.type-inv } in
-    let highest : SFits w32 c.signed_at-2.result = record { sfits = c.signed_at-2.type-inv } in
+    let lowest : SFits w32 c.signed_at.result = record { sfits = c.signed_at.type_inv } in
+    let highest : SFits w32 c.signed_at-2.result = record { sfits = c.signed_at-2.type_inv } in
     rw (
       to_z-of_z lowest,
       to_z-of_z highest,

@@ -1,5 +1,4 @@
 -- `form1::bytes::put_signed` meets its contract: the bits of a number, by its sign (`Signs` of `facts`).
-use native.Mathlib.Omega.{arith}
 use Rattle.facts.proofs.Signs.{Negative, NotNegative, negative, not_negative}
 use Rattle.form1.specs.Layout.{bits}
 use Rattle.form1.proofs.bytes.put_signed.Goals as goal
@@ -15,11 +14,9 @@ above c = not_negative _ c.ranges.x c.if-x-lt0.false
 pub returns-then-x-lt0 : goal.returns-then-x-lt0
 unfolding bits
 returns-then-x-lt0 c =
-    let put = c.before in
-    rw (below (goal.at.returns-then-x-lt0 c).Then-x-lt0).2 put.put_word.ensures
+    rw (below (goal.at.returns-then-x-lt0 c).Then-x-lt0).2 c.put_word.ensures
 
 pub returns : goal.returns
 unfolding bits
 returns c =
-    let put = c.before in
-    rw (above (goal.at.returns c).Else-x-lt0).2 put.put_word-2.ensures
+    rw (above (goal.at.returns c).Else-x-lt0).2 c.put_word-2.ensures

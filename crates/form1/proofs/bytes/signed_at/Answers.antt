@@ -9,5 +9,5 @@ use Rattle.form1.proofs.bytes.signed_at.Goals as goal
 pub returns : goal.returns
 unfolding signed_at
 returns c =
-    let fits : SFits w32 c.signed.result = record { sfits = c.signed.type-inv } in
+    let fits : SFits w32 c.signed.result = record { sfits = c.signed.type_inv } in
     rw (to_z-of_z fits, c.signed.ensures, c.word.ensures) refl

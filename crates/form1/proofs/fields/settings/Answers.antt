@@ -9,8 +9,8 @@ use Rattle.form1.proofs.fields.settings.Goals as goal
 pub returns : goal.returns
 unfolding Form1.settings
 returns c =
-    let point = c.before in
-    let fits : SFits w32 point.signed_at.result = record { sfits = point.signed_at.type-inv } in
+    let point = c in
+    let fits : SFits w32 point.signed_at.result = record { sfits = point.signed_at.type_inv } in
     rw (
       to_z-of_z fits,
       point.signed_at.ensures,

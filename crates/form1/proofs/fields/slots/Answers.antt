@@ -4,4 +4,4 @@ use Rattle.form1.proofs.fields.slots.Goals as goal
 
 pub returns : goal.returns
 unfolding Form1.slots
-returns c = (c.byte.ensures, c.byte.type-inv)
+returns c = (c.byte.ensures, c.byte.type_inv)
