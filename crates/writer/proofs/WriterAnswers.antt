@@ -2,7 +2,7 @@
 use Prim.Native.Nat.{ℕ, ◌+◌, ◌*◌, ◌≤◌, ◌<◌}
 use native.Mathlib.Omega.{arith}
 use mathlib.Core.Bool.{false}
-use mathlib.Core.List.{List, [], ◌∷◌, ◌++◌}
+use mathlib.Core.List.{List, [], ◌++◌}
 use mathlib.Core.Logic.{◌↔◌}
 use mathlib.Core.Option.{none, some}
 use mathlib.Core.Path.{◌≡◌, refl, sym, ap, ◌∙◌}
@@ -12,7 +12,7 @@ use lib.ListN.{length, take, drop}
 use lib.Seq.{take_at}
 use Rattle.refusals.proofs.Answer.{answer-refuses, answer-gives}
 use Rattle.refusals.proofs.Table.{first-none-check, first-none-row}
-use Rattle.refusals.specs.Answer.{refuses, gives, answer}
+use Rattle.refusals.specs.Answer.{refuses, gives}
 use Rattle.refusals.specs.Table.{row, first}
 use Rattle.refusals.specs.declared.Refusal.{Refusal}
 use Rattle.refusals.specs.declared.Refusal.TheVariants.{StoredSettle, Buffer}
@@ -21,7 +21,7 @@ use Rattle.settings.proofs.Accepted.{differs_false}
 use Rattle.form1.proofs.ReadBack.{encode-length}
 use Rattle.form1.specs.Form1.{stored_settle}
 use Rattle.requests.proofs.ChosenIn.{paired-length}
-use Rattle.requests.specs.Request.{paired, request_of, request_refusal, filter_refusal, WellFormed}
+use Rattle.requests.specs.Request.{paired, request_of, request_refusal, filter_refusal}
 use Rattle.writer.specs.Writing.{file_of, other_settle, buffer_too_short, writer_refusal, write_answer, writing}
 use Rattle.writer.specs.Writing.{StoresAccepted}
 
