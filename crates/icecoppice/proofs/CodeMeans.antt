@@ -1,6 +1,6 @@
 -- What a caller can tell from the code of what the reader, the look-up and the writer give.
 use Prim.Native.Nat.{ℕ}
-use mathlib.Core.Path.{◌≡◌, refl, ap, ◌∙◌}
+use mathlib.Core.Path.{◌≡◌, ap, ◌∙◌}
 use Rattle.refusals.proofs.Injective.{eleven-le-number}
 use Rattle.refusals.specs.Answer.{Answer, refuses, gives}
 use Rattle.refusals.specs.Numbers.{number}

@@ -2,15 +2,13 @@
 use Prim.Native.Nat.{ℕ}
 use mathlib.Core.List.{List}
 use mathlib.Core.Path.{◌≡◌, sym, ap, ◌∙◌}
-use borrow.Author.Rules.{rules}
 use lib.IntN.{ℤ, pos}
 use Rattle.card.specs.Reading.{meaning, outcome_of, reading}
 use Rattle.card.specs.declared.Reading.{Reading}
 use Rattle.icecoppice.specs.FileNumbers.{ReadsInNumbers, reading_numbers, header_numbers}
 use Rattle.icecoppice.specs.Numbers.{settings_of}
 use Rattle.icecoppice.specs.declared.files.ReadingNumbers.{ReadingNumbers}
-use Rattle.icecoppice.proofs.files.icecoppice_read.Statement.{statement}
-use Rattle.icecoppice.proofs.files.icecoppice_read.Tie as tie
+use Rattle.icecoppice.proofs.files.icecoppice_read.Goals as goal
 
 -- what was read, and the numbers of it
 in-numbers : (file : List ℕ) (los his los' his' : List ℤ) {r : Reading} (read : Reading) {numbers : ReadingNumbers} →
@@ -23,35 +21,17 @@ in-numbers file los his los' his' read e is n =
       highest_left = ap (λ o. o.highest) e;
     }
 
-returns : tie.Need-returns
-returns c =
-    let number = c.before.before in
-    let point = number.before.before in
-    in-numbers _ _ _ _ _ _ point.before.before.before.before.read.ensures point.reading.given.1
+pub returns-in-Refused : goal.returns-in-Refused
+returns-in-Refused c =
+    let number = c.before in
+    let point = number.before in
+    in-numbers _ _ _ _ _ _ point.read-reading.ensures point.in-Refused.is
     (c.numbers.ensures
     ∙ rw number.number.ensures
-    (ap (reading_numbers _ 0) {y = settings_of (pos 0) 0 0 0 0 0 0 0} c.before.gather.ensures))
+    (ap (reading_numbers _ 0) {y = settings_of (pos 0) 0 0 0 0 0 0 0} c.gather.ensures))
 
-returns-2 : tie.Need-returns-2
-returns-2 c =
-    let point = c.before.before in
-    in-numbers _ _ _ _ _ _ point.before.before.before.before.read.ensures point.reading2.given.1
-    c.numbers2.ensures
-
-pub icecoppice-read-spec : {M : Type 1} → statement M
-icecoppice-read-spec =
-    tie.close
-    (tie.spec
-    (λ c κs. search rules)
-    (λ c. search rules)
-    (λ c κs. search rules)
-    (λ c κs. search rules)
-    (λ c κs. search rules)
-    (λ c. search rules)
-    (λ c κs. search rules)
-    (λ c. search rules)
-    (λ c. search rules)
-    returns
-    (λ c. search rules)
-    (λ c. search rules)
-    returns-2)
+pub returns-in-Taken : goal.returns-in-Taken
+returns-in-Taken c =
+    let point = c.before in
+    in-numbers _ _ _ _ _ _ point.read-reading.ensures point.in-Taken.is
+    c.numbers-in-Taken.ensures
