@@ -60,9 +60,9 @@ use Rattle.filter.proofs.filter as Filter
 use Rattle.judge.proofs.judge as Judge
 use Rattle.chooser.proofs.choose as Choose
 use Rattle.paging.proofs.next_plan as NextPage
-use Rattle.watch.specs.contracts.Watch.start as Start
-use Rattle.watch.specs.contracts.Watch.step as Step
-use Rattle.watch.specs.contracts.Watch.run as Run
+use Rattle.watch.proofs.Watch.start as Start
+use Rattle.watch.proofs.Watch.step as Step
+use Rattle.watch.proofs.Watch.run as Run
 use Rattle.card.proofs.read as Read
 use Rattle.card.proofs.look_up as LookUp
 use Rattle.view.proofs.view_of as ViewOf

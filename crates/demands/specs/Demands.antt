@@ -59,48 +59,91 @@ use Rattle.icecoppice.specs.declared.watches.StepNumbers.{StepNumbers}
 use Rattle.demands.specs.Operation.{Operation}
 use Rattle.demands.specs.RoundTrip.{ReadsBack, WritesBack, Shortest}
 use Rattle.filter.proofs.filter as Filter
+use Rattle.filter.specs.contracts.filter as FilterContract
 use Rattle.judge.proofs.judge as Judge
+use Rattle.judge.specs.contracts.judge as JudgeContract
 use Rattle.chooser.proofs.choose as Choose
+use Rattle.chooser.specs.contracts.choose as ChooseContract
 use Rattle.paging.proofs.next_plan as NextPage
-use Rattle.watch.specs.contracts.Watch.start as Start
-use Rattle.watch.specs.contracts.Watch.step as Step
-use Rattle.watch.specs.contracts.Watch.run as Run
+use Rattle.paging.specs.contracts.next_plan as NextPageContract
+use Rattle.watch.proofs.Watch.start as Start
+use Rattle.watch.specs.contracts.Watch.start as StartContract
+use Rattle.watch.proofs.Watch.step as Step
+use Rattle.watch.specs.contracts.Watch.step as StepContract
+use Rattle.watch.proofs.Watch.run as Run
+use Rattle.watch.specs.contracts.Watch.run as RunContract
 use Rattle.card.proofs.read as Read
+use Rattle.card.specs.contracts.read as ReadContract
 use Rattle.card.proofs.look_up as LookUp
+use Rattle.card.specs.contracts.look_up as LookUpContract
 use Rattle.view.proofs.view_of as ViewOf
+use Rattle.view.specs.contracts.view_of as ViewOfContract
 use Rattle.view.proofs.View.look_up as ViewLookUp
+use Rattle.view.specs.contracts.View.look_up as ViewLookUpContract
 use Rattle.view.proofs.viewed as Viewed
+use Rattle.view.specs.contracts.viewed as ViewedContract
 use Rattle.writer.proofs.write as Write
+use Rattle.writer.specs.contracts.write as WriteContract
 use Rattle.listing.proofs.write_answer as WriteAnswer
+use Rattle.listing.specs.contracts.write_answer as WriteAnswerContract
 use Rattle.listing.proofs.write_refusal as WriteRefusal
+use Rattle.listing.specs.contracts.write_refusal as WriteRefusalContract
 use Rattle.icecoppice.proofs.icecoppice_filter as CFilter
+use Rattle.icecoppice.specs.contracts.icecoppice_filter as CFilterContract
 use Rattle.icecoppice.proofs.icecoppice_judge as CJudge
+use Rattle.icecoppice.specs.contracts.icecoppice_judge as CJudgeContract
 use Rattle.icecoppice.proofs.icecoppice_next_plan as CNextPage
+use Rattle.icecoppice.specs.contracts.icecoppice_next_plan as CNextPageContract
 use Rattle.icecoppice.proofs.icecoppice_read as CRead
+use Rattle.icecoppice.specs.contracts.icecoppice_read as CReadContract
 use Rattle.icecoppice.proofs.icecoppice_look_up as CLookUp
+use Rattle.icecoppice.specs.contracts.icecoppice_look_up as CLookUpContract
 use Rattle.icecoppice.proofs.icecoppice_write as CWrite
+use Rattle.icecoppice.specs.contracts.icecoppice_write as CWriteContract
 use Rattle.icecoppice.proofs.icecoppice_watch_start as CStart
+use Rattle.icecoppice.specs.contracts.icecoppice_watch_start as CStartContract
 use Rattle.icecoppice.proofs.icecoppice_watch_step as CStep
+use Rattle.icecoppice.specs.contracts.icecoppice_watch_step as CStepContract
 use Rattle.buffer.proofs.put_byte as PutByte
+use Rattle.buffer.specs.contracts.put_byte as PutByteContract
 use Rattle.rule.proofs.over as Over
+use Rattle.rule.specs.contracts.over as OverContract
 use Rattle.settings.proofs.check as Check
+use Rattle.settings.specs.contracts.check as CheckContract
 use Rattle.settings.proofs.check_lengths as CheckLengths
+use Rattle.settings.specs.contracts.check_lengths as CheckLengthsContract
 use Rattle.settings.proofs.check_settings as CheckSettings
+use Rattle.settings.specs.contracts.check_settings as CheckSettingsContract
 use Rattle.settings.proofs.check_shape as CheckShape
+use Rattle.settings.specs.contracts.check_shape as CheckShapeContract
 use Rattle.settings.proofs.differ as Differ
+use Rattle.settings.specs.contracts.differ as DifferContract
 use Rattle.checks.proofs.check_request as CheckRequest
+use Rattle.checks.specs.contracts.check_request as CheckRequestContract
 use Rattle.rule.proofs.class_of as ClassOf
+use Rattle.rule.specs.contracts.class_of as ClassOfContract
 use Rattle.least.proofs.least_counts as LeastCountsOf
+use Rattle.least.specs.contracts.least_counts as LeastCountsOfContract
 use Rattle.least.proofs.row_after as RowAfter
+use Rattle.least.specs.contracts.row_after as RowAfterContract
 use Rattle.drawing.proofs.classify as Classify
+use Rattle.drawing.specs.contracts.classify as ClassifyContract
 use Rattle.drawing.proofs.draw as Draw
+use Rattle.drawing.specs.contracts.draw as DrawContract
 use Rattle.drawing.proofs.complete as Complete
+use Rattle.drawing.specs.contracts.complete as CompleteContract
 use Rattle.form1.proofs.open as Open
+use Rattle.form1.specs.contracts.open as OpenContract
 use Rattle.form1.proofs.range_at as RangeAt
+use Rattle.form1.specs.contracts.range_at as RangeAtContract
 use Rattle.form1.proofs.put_range as PutRange
+use Rattle.form1.specs.contracts.put_range as PutRangeContract
 use Rattle.form1.proofs.put_trailer as PutTrailer
+use Rattle.form1.specs.contracts.put_trailer as PutTrailerContract
 use Rattle.refusals.proofs.Refusal.number as Number
+use Rattle.refusals.specs.contracts.Refusal.number as NumberContract
 use Rattle.refusals.proofs.Refusal.slot as RefusedSlot
+use Rattle.refusals.specs.contracts.Refusal.slot as RefusedSlotContract
 
 -- Demand 1: every input gets a result or one numbered refusal (from the chooser, an empty part), and what is lent is
 -- unaltered after a refusal, a "no plan" or the last page. That every input may be given follows from `Contracts`. The
@@ -337,58 +380,58 @@ pub record Established : Type 0 where
 -- Each operation meets its contract, as its source states it, and no contract has a `requires`.
 pub record Contracts : Type 2 where
   -- crates/filter/src/lib.rt
-  pub filter : Operation Filter.Statement.statement Filter.signature (λ M 𝓤. Filter.spec 𝓤)
+  pub filter : Operation Filter.Statement.statement FilterContract.signature (λ M 𝓤. FilterContract.spec)
   -- crates/judge/src/lib.rt and crates/chooser/src/lib.rt
-  pub judge : Operation Judge.Statement.statement Judge.signature (λ M 𝓤. Judge.spec 𝓤)
-  pub choose : Operation Choose.Statement.statement Choose.signature (λ M 𝓤. Choose.spec 𝓤)
+  pub judge : Operation Judge.Statement.statement JudgeContract.signature (λ M 𝓤. JudgeContract.spec)
+  pub choose : Operation Choose.Statement.statement ChooseContract.signature (λ M 𝓤. ChooseContract.spec)
   -- crates/paging/src/lib.rt
-  pub next_plan : Operation NextPage.Statement.statement NextPage.signature (λ M 𝓤. NextPage.spec 𝓤)
+  pub next_plan : Operation NextPage.Statement.statement NextPageContract.signature (λ M 𝓤. NextPageContract.spec)
   -- crates/watch/src
-  pub start : Operation Start.Statement.statement Start.signature (λ M 𝓤. Start.spec 𝓤)
-  pub step : Operation Step.Statement.statement Step.signature (λ M 𝓤. Step.spec 𝓤)
-  pub run : Operation Run.Statement.statement Run.signature (λ M 𝓤. Run.spec 𝓤)
+  pub start : Operation Start.Statement.statement StartContract.signature (λ M 𝓤. StartContract.spec)
+  pub step : Operation Step.Statement.statement StepContract.signature (λ M 𝓤. StepContract.spec)
+  pub run : Operation Run.Statement.statement RunContract.signature (λ M 𝓤. RunContract.spec)
   -- crates/card/src, crates/view/src/lib.rt and crates/writer/src/lib.rt
-  pub read : Operation Read.Statement.statement Read.signature (λ M 𝓤. Read.spec 𝓤)
-  pub look_up : Operation LookUp.Statement.statement LookUp.signature (λ M 𝓤. LookUp.spec 𝓤)
-  pub view_of : Operation ViewOf.Statement.statement ViewOf.signature (λ M 𝓤. ViewOf.spec 𝓤)
-  pub view_look_up : Operation ViewLookUp.Statement.statement ViewLookUp.signature (λ M 𝓤. ViewLookUp.spec 𝓤)
-  pub viewed : Operation Viewed.Statement.statement Viewed.signature (λ M 𝓤. Viewed.spec 𝓤)
-  pub write : Operation Write.Statement.statement Write.signature (λ M 𝓤. Write.spec 𝓤)
+  pub read : Operation Read.Statement.statement ReadContract.signature (λ M 𝓤. ReadContract.spec)
+  pub look_up : Operation LookUp.Statement.statement LookUpContract.signature (λ M 𝓤. LookUpContract.spec)
+  pub view_of : Operation ViewOf.Statement.statement ViewOfContract.signature (λ M 𝓤. ViewOfContract.spec)
+  pub view_look_up : Operation ViewLookUp.Statement.statement ViewLookUpContract.signature (λ M 𝓤. ViewLookUpContract.spec)
+  pub viewed : Operation Viewed.Statement.statement ViewedContract.signature (λ M 𝓤. ViewedContract.spec)
+  pub write : Operation Write.Statement.statement WriteContract.signature (λ M 𝓤. WriteContract.spec)
   -- crates/listing/src
-  pub write_answer : Operation WriteAnswer.Statement.statement WriteAnswer.signature (λ M 𝓤. WriteAnswer.spec 𝓤)
-  pub write_refusal : Operation WriteRefusal.Statement.statement WriteRefusal.signature (λ M 𝓤. WriteRefusal.spec 𝓤)
+  pub write_answer : Operation WriteAnswer.Statement.statement WriteAnswerContract.signature (λ M 𝓤. WriteAnswerContract.spec)
+  pub write_refusal : Operation WriteRefusal.Statement.statement WriteRefusalContract.signature (λ M 𝓤. WriteRefusalContract.spec)
   -- crates/icecoppice/src
-  pub filter_for_c : Operation CFilter.Statement.statement CFilter.signature (λ M 𝓤. CFilter.spec 𝓤)
-  pub judge_for_c : Operation CJudge.Statement.statement CJudge.signature (λ M 𝓤. CJudge.spec 𝓤)
-  pub next_plan_for_c : Operation CNextPage.Statement.statement CNextPage.signature (λ M 𝓤. CNextPage.spec 𝓤)
-  pub read_for_c : Operation CRead.Statement.statement CRead.signature (λ M 𝓤. CRead.spec 𝓤)
-  pub look_up_for_c : Operation CLookUp.Statement.statement CLookUp.signature (λ M 𝓤. CLookUp.spec 𝓤)
-  pub write_for_c : Operation CWrite.Statement.statement CWrite.signature (λ M 𝓤. CWrite.spec 𝓤)
-  pub start_for_c : Operation CStart.Statement.statement CStart.signature (λ M 𝓤. CStart.spec 𝓤)
-  pub step_for_c : Operation CStep.Statement.statement CStep.signature (λ M 𝓤. CStep.spec 𝓤)
+  pub filter_for_c : Operation CFilter.Statement.statement CFilterContract.signature (λ M 𝓤. CFilterContract.spec)
+  pub judge_for_c : Operation CJudge.Statement.statement CJudgeContract.signature (λ M 𝓤. CJudgeContract.spec)
+  pub next_plan_for_c : Operation CNextPage.Statement.statement CNextPageContract.signature (λ M 𝓤. CNextPageContract.spec)
+  pub read_for_c : Operation CRead.Statement.statement CReadContract.signature (λ M 𝓤. CReadContract.spec)
+  pub look_up_for_c : Operation CLookUp.Statement.statement CLookUpContract.signature (λ M 𝓤. CLookUpContract.spec)
+  pub write_for_c : Operation CWrite.Statement.statement CWriteContract.signature (λ M 𝓤. CWriteContract.spec)
+  pub start_for_c : Operation CStart.Statement.statement CStartContract.signature (λ M 𝓤. CStartContract.spec)
+  pub step_for_c : Operation CStep.Statement.statement CStepContract.signature (λ M 𝓤. CStepContract.spec)
   -- what these share: a byte put into a buffer, the test of a load, checks, a slot's class and least counts, the
   -- classes of all slots and what is drawn for them, a file's trailer and records, read and put, and the number and
   -- slot of a refusal
-  pub put_byte : Operation PutByte.Statement.statement PutByte.signature (λ M 𝓤. PutByte.spec 𝓤)
-  pub over : Operation Over.Statement.statement Over.signature (λ M 𝓤. Over.spec 𝓤)
-  pub check : Operation Check.Statement.statement Check.signature (λ M 𝓤. Check.spec 𝓤)
-  pub check_lengths : Operation CheckLengths.Statement.statement CheckLengths.signature (λ M 𝓤. CheckLengths.spec 𝓤)
-  pub check_settings : Operation CheckSettings.Statement.statement CheckSettings.signature (λ M 𝓤. CheckSettings.spec 𝓤)
-  pub check_shape : Operation CheckShape.Statement.statement CheckShape.signature (λ M 𝓤. CheckShape.spec 𝓤)
-  pub differ : Operation Differ.Statement.statement Differ.signature (λ M 𝓤. Differ.spec 𝓤)
-  pub check_request : Operation CheckRequest.Statement.statement CheckRequest.signature (λ M 𝓤. CheckRequest.spec 𝓤)
-  pub class_of : Operation ClassOf.Statement.statement ClassOf.signature (λ M 𝓤. ClassOf.spec 𝓤)
-  pub least_counts : Operation LeastCountsOf.Statement.statement LeastCountsOf.signature (λ M 𝓤. LeastCountsOf.spec 𝓤)
-  pub row_after : Operation RowAfter.Statement.statement RowAfter.signature (λ M 𝓤. RowAfter.spec 𝓤)
-  pub classify : Operation Classify.Statement.statement Classify.signature (λ M 𝓤. Classify.spec 𝓤)
-  pub draw : Operation Draw.Statement.statement Draw.signature (λ M 𝓤. Draw.spec 𝓤)
-  pub complete : Operation Complete.Statement.statement Complete.signature (λ M 𝓤. Complete.spec 𝓤)
-  pub «open» : Operation Open.Statement.statement Open.signature (λ M 𝓤. Open.spec 𝓤)
-  pub range_at : Operation RangeAt.Statement.statement RangeAt.signature (λ M 𝓤. RangeAt.spec 𝓤)
-  pub put_range : Operation PutRange.Statement.statement PutRange.signature (λ M 𝓤. PutRange.spec 𝓤)
-  pub put_trailer : Operation PutTrailer.Statement.statement PutTrailer.signature (λ M 𝓤. PutTrailer.spec 𝓤)
-  pub number : Operation Number.Statement.statement Number.signature (λ M 𝓤. Number.spec 𝓤)
-  pub slot : Operation RefusedSlot.Statement.statement RefusedSlot.signature (λ M 𝓤. RefusedSlot.spec 𝓤)
+  pub put_byte : Operation PutByte.Statement.statement PutByteContract.signature (λ M 𝓤. PutByteContract.spec)
+  pub over : Operation Over.Statement.statement OverContract.signature (λ M 𝓤. OverContract.spec)
+  pub check : Operation Check.Statement.statement CheckContract.signature (λ M 𝓤. CheckContract.spec)
+  pub check_lengths : Operation CheckLengths.Statement.statement CheckLengthsContract.signature (λ M 𝓤. CheckLengthsContract.spec)
+  pub check_settings : Operation CheckSettings.Statement.statement CheckSettingsContract.signature (λ M 𝓤. CheckSettingsContract.spec)
+  pub check_shape : Operation CheckShape.Statement.statement CheckShapeContract.signature (λ M 𝓤. CheckShapeContract.spec)
+  pub differ : Operation Differ.Statement.statement DifferContract.signature (λ M 𝓤. DifferContract.spec)
+  pub check_request : Operation CheckRequest.Statement.statement CheckRequestContract.signature (λ M 𝓤. CheckRequestContract.spec)
+  pub class_of : Operation ClassOf.Statement.statement ClassOfContract.signature (λ M 𝓤. ClassOfContract.spec)
+  pub least_counts : Operation LeastCountsOf.Statement.statement LeastCountsOfContract.signature (λ M 𝓤. LeastCountsOfContract.spec)
+  pub row_after : Operation RowAfter.Statement.statement RowAfterContract.signature (λ M 𝓤. RowAfterContract.spec)
+  pub classify : Operation Classify.Statement.statement ClassifyContract.signature (λ M 𝓤. ClassifyContract.spec)
+  pub draw : Operation Draw.Statement.statement DrawContract.signature (λ M 𝓤. DrawContract.spec)
+  pub complete : Operation Complete.Statement.statement CompleteContract.signature (λ M 𝓤. CompleteContract.spec)
+  pub «open» : Operation Open.Statement.statement OpenContract.signature (λ M 𝓤. OpenContract.spec)
+  pub range_at : Operation RangeAt.Statement.statement RangeAtContract.signature (λ M 𝓤. RangeAtContract.spec)
+  pub put_range : Operation PutRange.Statement.statement PutRangeContract.signature (λ M 𝓤. PutRangeContract.spec)
+  pub put_trailer : Operation PutTrailer.Statement.statement PutTrailerContract.signature (λ M 𝓤. PutTrailerContract.spec)
+  pub number : Operation Number.Statement.statement NumberContract.signature (λ M 𝓤. NumberContract.spec)
+  pub slot : Operation RefusedSlot.Statement.statement RefusedSlotContract.signature (λ M 𝓤. RefusedSlotContract.spec)
 
 -- Demand 3 is stated in crates/requests/specs/Demand3.antt, for the definitions and for what the filter hands back.
 pub record Demands : Type 2 where
