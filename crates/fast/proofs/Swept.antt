@@ -80,9 +80,11 @@ module _ (shape : Shape) (cs : List Class) (w n : ℕ) (small : n < sentinel) wh
       fits→window {x} {e} l f =
           let inside : e ≤ length cs = omega (arith, f.reaches, within x (omega arith)) in
           let (spare, reaches) = reached.sound x e l f.order f.reaches in
-          let (begins, clear_before, before) = twice-open (starts-at x l) small (omega (arith, f.short)) in
-          let (ends, clear_after, after) = twice-open (ends_at x e f.order inside) small (omega (arith, f.short)) in
           let rest : w - 1 - a ≡ b = omega arith in
+          let first : get_or starts (length cs - suc x) 0 ≤ n = omega (arith, f.short) in
+          let last : get_or ends (e - 1) 0 ≤ n = omega (arith, f.short) in
+          let (begins, clear_before, before) = twice-open (starts-at x l) small first in
+          let (ends, clear_after, after) = twice-open (ends_at x e f.order inside) small last in
           record {
             order = f.order;
             inside = inside;

@@ -1,4 +1,4 @@
-// A row as what comes after a window, for the crate that draws from given marks.
+// A row as what comes after a window, for a crate that draws from given marks.
 ghost use Rattle.std.specs.Prelude.{◌≡◌, length, ℕ, ◌+◌, ◌≤◌, ◌<◌};
 ghost use Rattle.rule.specs.ClassCodes.{decode_all};
 ghost use Rattle.rule.specs.declared.Shape.{Shape};

@@ -21,7 +21,7 @@ before-is x cs e =
     let n : length (reverse (drop x cs)) ≡ length cs - x = length-reverse (drop x cs) ∙ length-drop x cs in
     let s : reverse (drop x cs) ++ reverse (take x cs) ≡ reverse cs =
     sym (reverse-append (take x cs) (drop x cs)) ∙ ap reverse (take-append-drop x cs) in
-    rw (← s, ← n) (drop-append_seam (reverse (drop x cs)) (reverse (take x cs)))
+    rw (n, s) at (drop-append_seam (reverse (drop x cs)) (reverse (take x cs)))
 
 -- the ends of d slots from slot x on
 pub opens_at : (x d : ℕ) (cs : List Class) → 0 < d → x < length cs →

@@ -1,5 +1,5 @@
 -- What lies on both sides of a place between slots, and the windows and uncovered slots that fit between them: the
--- words of the crate `parts`. That they say which parts a slot keeps is proved in proofs/Parts.antt.
+-- words of the crate `fast`. That they say which parts a slot keeps is proved in proofs/Parts.antt.
 use Rattle.std.specs.Prelude.{ℕ, suc, ◌+◌, ◌-◌, ◌≤◌, ◌<◌, true, List, reverse, ◌≡◌, length, drop, get_or}
 use Rattle.rule.specs.Ranges.{Class, under_only, allows}
 use Rattle.rule.specs.declared.Shape.{Shape}

@@ -4,8 +4,5 @@ use Rattle.fast.proofs.row_after_slots.Goals as goal
 
 pub returns : goal.returns
 returns c =
-    let at_place = c.before in
-    let at_fill_lem = at_place.before in
-    let (wide, last, ring, counted) = at_fill_lem.fill-filled.ensures in
-    c.after_windows.ensures _ _ at_fill_lem.lacks_of-lacks.ensures.1
-    (ring-last ring last at_place.place-at.ensures)
+    let (wide, last, ring, counted) = c.fill-filled.ensures in
+    c.after_windows.ensures _ _ c.lacks_of-lacks.ensures.1 (ring-last ring last c.place-at.ensures)

@@ -1,15 +1,11 @@
 -- `fast::after::after_windows` meets its contract. The loop's invariant: the counts before slot i are written
 -- (`FilledBefore`).
-use Prim.Native.Nat.{◌+◌, ◌-◌}
 use native.Mathlib.Omega.{arith}
-use mathlib.Core.Bool.{cond}
-use mathlib.Core.Path.{◌≡◌, ◌∙◌}
-use lib.Dec.{eqb}
-use lib.ListN.{length, get_or, length-map}
-use Rattle.requests.specs.Solution.{sentinel}
+use mathlib.Core.Path.{◌∙◌}
+use lib.ListN.{length-map}
 use Rattle.rule.specs.ClassCodes.{decode}
 use Rattle.fast.proofs.DrawLoop.{unless-lacking-after}
-use Rattle.fast.proofs.FilledBefore.{FilledBefore, filled-start, filled-step}
+use Rattle.fast.proofs.FilledBefore.{filled-start, filled-step}
 use Rattle.fast.proofs.after.after_windows.Goals as goal
 
 pub loop-i-init : goal.loop-i-init

@@ -1,15 +1,12 @@
 -- `fast::after::after_windows` meets its contract. The loop's invariant: the counts before slot i are written
 -- (`FilledBefore`).
 use Prim.Native.Nat.{◌+◌, ◌-◌}
-use native.Mathlib.Omega.{arith}
 use mathlib.Core.Bool.{cond}
-use mathlib.Core.Path.{◌≡◌, ◌∙◌}
+use mathlib.Core.Path.{◌≡◌}
 use lib.Dec.{eqb}
-use lib.ListN.{length, get_or, length-map}
+use lib.ListN.{length, get_or}
 use Rattle.requests.specs.Solution.{sentinel}
-use Rattle.rule.specs.ClassCodes.{decode}
-use Rattle.fast.proofs.DrawLoop.{unless-lacking-after}
-use Rattle.fast.proofs.FilledBefore.{FilledBefore, filled-start, filled-step}
+use Rattle.fast.proofs.FilledBefore.{FilledBefore}
 use Rattle.fast.proofs.after.after_windows.Given as goal
 
 abbrev pub invariant-loop-i : goal.invariant-loop-i

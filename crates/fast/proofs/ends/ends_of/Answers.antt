@@ -1,8 +1,6 @@
 -- `fast::ends::ends_of` meets its contract. The loop's invariant: the ends before slot i are known (`EndsBefore`).
-use Prim.Native.Nat.{◌-◌}
 use native.Mathlib.Omega.{arith}
-use lib.ListN.{length}
-use Rattle.fast.proofs.EndsLoop.{EndsBefore, ends-start, ends-step, ends-end}
+use Rattle.fast.proofs.EndsLoop.{ends-start, ends-step, ends-end}
 use Rattle.fast.proofs.ends.ends_of.Goals as goal
 
 pub loop-i-init : goal.loop-i-init

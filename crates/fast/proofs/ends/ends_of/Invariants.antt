@@ -1,8 +1,7 @@
 -- `fast::ends::ends_of` meets its contract. The loop's invariant: the ends before slot i are known (`EndsBefore`).
 use Prim.Native.Nat.{◌-◌}
-use native.Mathlib.Omega.{arith}
 use lib.ListN.{length}
-use Rattle.fast.proofs.EndsLoop.{EndsBefore, ends-start, ends-step, ends-end}
+use Rattle.fast.proofs.EndsLoop.{EndsBefore}
 use Rattle.fast.proofs.ends.ends_of.Given as goal
 
 abbrev pub invariant-loop-i : goal.invariant-loop-i

@@ -1,7 +1,7 @@
 -- `fast::ends::lacks_of` meets its contract. The loop's invariant: what is lacking is known from slot i on
 -- (`LackingFrom`).
 use native.Mathlib.Omega.{arith}
-use Rattle.fast.proofs.EndsLoop.{LackingFrom, lacking-start, lacking-step, lacking-end}
+use Rattle.fast.proofs.EndsLoop.{lacking-start, lacking-step, lacking-end}
 use Rattle.fast.proofs.ends.lacks_of.Goals as goal
 
 pub loop-i-init : goal.loop-i-init

@@ -1,7 +1,6 @@
 -- `fast::ends::lacks_of` meets its contract. The loop's invariant: what is lacking is known from slot i on
 -- (`LackingFrom`).
-use native.Mathlib.Omega.{arith}
-use Rattle.fast.proofs.EndsLoop.{LackingFrom, lacking-start, lacking-step, lacking-end}
+use Rattle.fast.proofs.EndsLoop.{LackingFrom}
 use Rattle.fast.proofs.ends.lacks_of.Given as goal
 
 abbrev pub invariant-loop-i : goal.invariant-loop-i

@@ -1,6 +1,5 @@
 -- `fast::losses::loss_code` meets its contract: its tests are the definition's.
 use mathlib.Core.Path.{refl}
-use borrow.Author.Tests.{not-true, not-false}
 use Rattle.rule.proofs.ClassCodes.{decode-0, decode-1, decode-other}
 use Rattle.fast.proofs.losses.loss_code.Goals as goal
 
@@ -12,18 +11,15 @@ returns-then-class-eq-OVER c = rw (decode-1 _ c.if-class-eq-OVER.true) refl
 
 pub returns-then-not-under : goal.returns-then-not-under
 returns-then-not-under c =
-    let args = c.args in
     let open-slot = decode-other _ c.if-class-eq-UNDER.false c.if-class-eq-OVER.false in
-    rw (open-slot, not-true args.under c.if-not-under.true) refl
+    rw (open-slot, c.if-not-under.true) refl
 
 pub returns-then-not-over : goal.returns-then-not-over
 returns-then-not-over c =
-    let args = c.args in
     let open-slot = decode-other _ c.if-class-eq-UNDER.false c.if-class-eq-OVER.false in
-    rw (open-slot, not-false args.under c.if-not-under.false, not-true args.over c.if-not-over.true) refl
+    rw (open-slot, c.if-not-under.false, c.if-not-over.true) refl
 
 pub returns : goal.returns
 returns c =
-    let args = c.args in
     let open-slot = decode-other _ c.if-class-eq-UNDER.false c.if-class-eq-OVER.false in
-    rw (open-slot, not-false args.under c.if-not-under.false, not-false args.over c.if-not-over.false) refl
+    rw (open-slot, c.if-not-under.false, c.if-not-over.false) refl

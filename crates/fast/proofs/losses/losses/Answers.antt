@@ -1,10 +1,10 @@
 -- `fast::losses::losses` meets its contract. The loop's invariant: the bytes before slot i are written (`LostBefore`).
-use Prim.Native.Nat.{ℕ, ◌-◌}
+use Prim.Native.Nat.{ℕ}
 use native.Mathlib.Omega.{arith}
 use mathlib.Core.Path.{◌∙◌}
-use lib.ListN.{length, length-replicate}
+use lib.ListN.{length-replicate}
 use Rattle.settings.specs.Refusals.{limit}
-use Rattle.fast.proofs.LossLoop.{LostBefore, loss-start, loss-step}
+use Rattle.fast.proofs.LossLoop.{loss-start, loss-step}
 use Rattle.fast.proofs.losses.losses.Goals as goal
 
 pub loop-i-init : goal.loop-i-init
@@ -12,12 +12,9 @@ loop-i-init c = loss-start _ _ _ _
 
 pub loop-i-preserved : goal.loop-i-preserved
 loop-i-preserved c =
-    let at_code = c.before in
-    let at-stays = at_code.before in
-    let at-larger = at-stays.before in
-    let loop = at-larger.loop-i in
+    let loop = c.loop-i in
     loss-step _ _ _ _ loop.lost loop.furthest loop.inside loop.i _ loop.invariant (omega arith)
-    at-larger.larger-furthest.ensures at-stays.Under-stays.ensures at_code.loss_code.ensures c.larger-inside.ensures
+    c.larger-furthest.ensures c.under_stays.ensures c.loss_code.ensures c.larger-inside.ensures
 
 pub returns : goal.returns
 returns c =

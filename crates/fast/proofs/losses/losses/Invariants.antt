@@ -1,10 +1,7 @@
 -- `fast::losses::losses` meets its contract. The loop's invariant: the bytes before slot i are written (`LostBefore`).
-use Prim.Native.Nat.{ℕ, ◌-◌}
-use native.Mathlib.Omega.{arith}
-use mathlib.Core.Path.{◌∙◌}
-use lib.ListN.{length, length-replicate}
-use Rattle.settings.specs.Refusals.{limit}
-use Rattle.fast.proofs.LossLoop.{LostBefore, loss-start, loss-step}
+use Prim.Native.Nat.{◌-◌}
+use lib.ListN.{length}
+use Rattle.fast.proofs.LossLoop.{LostBefore}
 use Rattle.fast.proofs.losses.losses.Given as goal
 
 abbrev pub invariant-loop-i : goal.invariant-loop-i

@@ -1,9 +1,7 @@
 -- `fast::pen::draw_on` meets its contract. The loop's invariant: to draw on is to draw on from the start
 -- (`LeftToDraw`).
 use Prim.Native.Nat.{◌-◌}
-use native.Mathlib.Omega.{arith}
-use mathlib.Core.Logic.{inl, inr}
-use Rattle.fast.proofs.DrawLoop.{LeftToDraw, pen_at, draw-start, draw-step, draw-again, draw-end}
+use Rattle.fast.proofs.DrawLoop.{LeftToDraw, pen_at}
 use Rattle.fast.proofs.pen.draw_on.Given as goal
 
 abbrev pub invariant-loop-i : goal.invariant-loop-i

@@ -1,7 +1,6 @@
 -- `fast::pen::draw_rest` meets its contract: each turn draws up to the next window (`DrawRestLoop`).
 use Prim.Native.Nat.{◌-◌}
-use native.Mathlib.Omega.{arith}
-use Rattle.fast.proofs.DrawRestLoop.{RestToDraw, rest-start, rest-less, rest-step, rest_end}
+use Rattle.fast.proofs.DrawRestLoop.{RestToDraw}
 use Rattle.fast.proofs.pen.draw_rest.Given as goal
 
 abbrev pub invariant-loop-pen : goal.invariant-loop-pen

@@ -1,9 +1,7 @@
 -- `fast::reach::extend` meets its contract. The loop's invariant: the span goes from slot x up to slot i (`SpanTo`).
-use Prim.Native.Nat.{◌-◌}
 use native.Mathlib.Omega.{arith}
 use mathlib.Core.Path.{refl}
-use lib.ListN.{length}
-use Rattle.fast.proofs.SpanLoop.{SpanTo, span-step, span-full, span-stopped, span_last}
+use Rattle.fast.proofs.SpanLoop.{span-step, span-full, span-stopped, span_last}
 use Rattle.fast.proofs.reach.extend.Goals as goal
 
 pub loop-i-init : goal.loop-i-init

@@ -1,9 +1,7 @@
 -- `fast::reach::reaches` meets its contract. The loop's invariant: the reaches before slot x are known, and a span
 -- from there on (`ReachesBefore`).
-use Prim.Native.Nat.{◌-◌}
 use native.Mathlib.Omega.{arith}
-use lib.ListN.{length}
-use Rattle.fast.proofs.ReachLoop.{ReachesBefore, reaches-start, reaches-first, reaches_step, reaches_end}
+use Rattle.fast.proofs.ReachLoop.{reaches-start, reaches-first, reaches_step, reaches_end}
 use Rattle.fast.proofs.reach.reaches.Goals as goal
 
 pub loop-x-init : goal.loop-x-init

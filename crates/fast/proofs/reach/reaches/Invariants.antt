@@ -1,9 +1,8 @@
 -- `fast::reach::reaches` meets its contract. The loop's invariant: the reaches before slot x are known, and a span
 -- from there on (`ReachesBefore`).
 use Prim.Native.Nat.{◌-◌}
-use native.Mathlib.Omega.{arith}
 use lib.ListN.{length}
-use Rattle.fast.proofs.ReachLoop.{ReachesBefore, reaches-start, reaches-first, reaches_step, reaches_end}
+use Rattle.fast.proofs.ReachLoop.{ReachesBefore}
 use Rattle.fast.proofs.reach.reaches.Given as goal
 
 abbrev pub invariant-loop-x : goal.invariant-loop-x

@@ -1,18 +1,13 @@
 -- `fast::ring::fill` meets its contract: each turn makes a row (`FillLoop`).
-use Prim.Native.Nat.{◌-◌, ◌≤◌}
 use native.Mathlib.Omega.{arith}
-use mathlib.Core.Bool.{true, false≢true}
+use mathlib.Core.Bool.{false≢true}
 use mathlib.Core.Logic.{inl, inr}
-use mathlib.Core.Path.{◌≡◌, refl, subst}
-use lib.ListN.{length, length-map}
-use borrow.Author.Tests.{not-false}
-use Rattle.rule.specs.ClassCodes.{decode, decode_all}
-use Rattle.rule.specs.declared.Shape.{Shape}
-use Rattle.settings.specs.Refusals.{places}
+use mathlib.Core.Path.{refl, subst}
+use lib.ListN.{length-map}
+use Rattle.rule.specs.ClassCodes.{decode}
 use Rattle.fast.proofs.ReachLoop.{bounded}
-use Rattle.fast.proofs.FillLoop.{UpTo, Repeats, fill_start, fill-turn, fill-repeats-at, fill-ring, fill-counted}
-use Rattle.fast.specs.Ring.{ring_places}
-use Rattle.fast.specs.Rows.{Reaches, LacksFrom, Bounded}
+use Rattle.fast.proofs.FillLoop.{fill_start, fill-turn, fill-repeats-at, fill-ring, fill-counted}
+use Rattle.fast.specs.Rows.{Bounded}
 use Rattle.fast.proofs.ring.fill.Goals as goal
 
 pub loop-v-init : goal.loop-v-init
@@ -27,9 +22,7 @@ loop-v-init c = (
 
 pub advance-repeats-requires : goal.advance-repeats-requires
 advance-repeats-requires c =
-    let at = c.before in
-    let entry = at.before in
-    let reach = bounded entry.requires.4 in (
+    let reach = bounded c.requires.4 in (
       omega arith,
       omega arith,
       omega arith,
@@ -37,7 +30,7 @@ advance-repeats-requires c =
       omega arith,
       omega arith,
       omega arith,
-      subst (Bounded _) (length-map entry.args.classes.now decode) reach,
+      subst (Bounded _) (length-map c.args.classes.now decode) reach,
     )
 
 pub loop-v-preserved : goal.loop-v-preserved
@@ -67,7 +60,7 @@ returns-else-not-repeats c =
     let pre = c.requires in
     let args = c.args in
     let (end, repeated) = loop.invariant.4 args.settings.shape pre.4 pre.5 in
-    let ended = inr (repeated (not-false _ c.if-not-repeats.false)) in (
+    let ended = inr (repeated c.if-not-repeats.false) in (
       loop.invariant.1,
       loop.invariant.0,
       fill-ring args.settings _ _ end loop.invariant.0 ended,

@@ -1,18 +1,14 @@
 -- `fast::ring::fill` meets its contract: each turn makes a row (`FillLoop`).
 use Prim.Native.Nat.{◌-◌, ◌≤◌}
-use native.Mathlib.Omega.{arith}
-use mathlib.Core.Bool.{true, false≢true}
-use mathlib.Core.Logic.{inl, inr}
-use mathlib.Core.Path.{◌≡◌, refl, subst}
-use lib.ListN.{length, length-map}
-use borrow.Author.Tests.{not-false}
-use Rattle.rule.specs.ClassCodes.{decode, decode_all}
+use mathlib.Core.Bool.{true}
+use mathlib.Core.Path.{◌≡◌}
+use lib.ListN.{length}
+use Rattle.rule.specs.ClassCodes.{decode_all}
 use Rattle.rule.specs.declared.Shape.{Shape}
 use Rattle.settings.specs.Refusals.{places}
-use Rattle.fast.proofs.ReachLoop.{bounded}
-use Rattle.fast.proofs.FillLoop.{UpTo, Repeats, fill_start, fill-turn, fill-repeats-at, fill-ring, fill-counted}
+use Rattle.fast.proofs.FillLoop.{UpTo, Repeats}
 use Rattle.fast.specs.Ring.{ring_places}
-use Rattle.fast.specs.Rows.{Reaches, LacksFrom, Bounded}
+use Rattle.fast.specs.Rows.{Reaches, LacksFrom}
 use Rattle.fast.proofs.ring.fill.Given as goal
 
 abbrev pub invariant-loop-v : goal.invariant-loop-v

@@ -1,7 +1,6 @@
 -- `fast::row::first_row` meets its contract. The loop's invariant: the row is filled from slot i on (`FirstRowFrom`).
-use native.Mathlib.Omega.{arith}
-use lib.ListN.{length, length-set}
-use Rattle.fast.proofs.FirstRowLoop.{FirstRowFrom, first-start, first_step, first-end}
+use lib.ListN.{length}
+use Rattle.fast.proofs.FirstRowLoop.{FirstRowFrom}
 use Rattle.fast.proofs.row.first_row.Given as goal
 
 abbrev pub invariant-loop-i : goal.invariant-loop-i

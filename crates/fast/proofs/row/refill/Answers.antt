@@ -1,8 +1,7 @@
 -- `fast::row::refill` meets its contract. The loop's invariant: the minima of up to k ends are known (`MinimaTo`).
-use Prim.Native.Nat.{◌-◌, ◌≤◌}
 use native.Mathlib.Omega.{arith}
 use mathlib.Core.Path.{refl}
-use Rattle.fast.proofs.Serves.{MinimaTo, minima-start, minima-step, minima-end}
+use Rattle.fast.proofs.Serves.{minima-start, minima-step, minima-end}
 use Rattle.fast.proofs.row.refill.Goals as goal
 
 pub loop-k-init : goal.loop-k-init

@@ -1,8 +1,5 @@
 -- `fast::row::row_of` meets its contract. The loop's invariant: the row is made from slot i on (`MadeFrom`).
-use Prim.Native.Nat.{◌-◌}
-use native.Mathlib.Omega.{arith}
-use lib.ListN.{length-set}
-use Rattle.fast.proofs.RowLoop.{MadeFrom, made-start, made-step, made-end}
+use Rattle.fast.proofs.RowLoop.{MadeFrom}
 use Rattle.fast.proofs.row.row_of.Given as goal
 
 abbrev pub invariant-loop-i : goal.invariant-loop-i

@@ -1,8 +1,6 @@
 -- `fast::row::same_row` meets its contract. The loop's invariant: the rows are alike before slot i (`AlikeBefore`).
 use Prim.Native.Nat.{◌+◌, ◌-◌, ◌≤◌}
-use native.Mathlib.Omega.{arith}
-use mathlib.Core.Bool.{false≢true}
-use Rattle.fast.proofs.SameRowLoop.{AlikeBefore, alike-start, alike-step}
+use Rattle.fast.proofs.SameRowLoop.{AlikeBefore}
 use Rattle.fast.proofs.row.same_row.Given as goal
 
 abbrev pub invariant-loop-i : goal.invariant-loop-i

@@ -1,7 +1,7 @@
 -- `fast::sweep::furthest` meets its contract. The loop's invariant: no window that fits covers more than k slots
 -- (`AtMost`).
 use native.Mathlib.Omega.{arith}
-use Rattle.fast.proofs.FurthestLoop.{AtMost, furthest-start, furthest-step, furthest-known, furthest-found}
+use Rattle.fast.proofs.FurthestLoop.{furthest-start, furthest-step, furthest-known, furthest-found}
 use Rattle.fast.proofs.sweep.furthest.Goals as goal
 
 pub loop-k-init : goal.loop-k-init

@@ -1,7 +1,6 @@
 -- `fast::sweep::furthest` meets its contract. The loop's invariant: no window that fits covers more than k slots
 -- (`AtMost`).
-use native.Mathlib.Omega.{arith}
-use Rattle.fast.proofs.FurthestLoop.{AtMost, furthest-start, furthest-step, furthest-known, furthest-found}
+use Rattle.fast.proofs.FurthestLoop.{AtMost}
 use Rattle.fast.proofs.sweep.furthest.Given as goal
 
 abbrev pub invariant-loop-k : goal.invariant-loop-k

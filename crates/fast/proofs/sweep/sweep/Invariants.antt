@@ -1,21 +1,11 @@
 -- `fast::sweep::sweep` meets its contract: each turn takes one window over to the slots before (`SweepLoop`), and
 -- draws on (`DrawRestLoop`).
-use Prim.Native.Nat.{ℕ, ◌+◌, ◌-◌, ◌*◌, ◌≤◌}
-use native.Mathlib.Nat.{le_refl}
-use native.Mathlib.Omega.{arith}
-use mathlib.Core.Bool.{true}
-use mathlib.Core.Logic.{◌⊎◌, inl, inr, ⊎_elim}
-use mathlib.Core.Path.{◌≡◌, refl, sym, subst, ◌∙◌}
-use lib.ListN.{length, get_or, length-map}
-use borrow.Author.Tests.{not-false}
-use Rattle.rule.specs.ClassCodes.{decode}
+use Prim.Native.Nat.{◌*◌}
+use mathlib.Core.Path.{◌≡◌}
+use lib.ListN.{length}
 use Rattle.settings.specs.Refusals.{limit, places}
-use Rattle.fast.proofs.DrawRestLoop.{RestToDraw, rest-start, rest-step}
-use Rattle.fast.proofs.FillLoop.{ring-row}
-use Rattle.fast.proofs.ReachLoop.{bounded}
-use Rattle.fast.proofs.SpareReach.{reaches-with}
-use Rattle.fast.proofs.SweepLoop.{Sweeping, side-repeats, sweep-start, sweep-turn, sweep-end}
-use Rattle.fast.specs.Rows.{Row, Bounded}
+use Rattle.fast.proofs.DrawRestLoop.{RestToDraw}
+use Rattle.fast.proofs.SweepLoop.{Sweeping}
 use Rattle.fast.proofs.sweep.sweep.Given as goal
 
 abbrev pub invariant-loop-left : goal.invariant-loop-left

@@ -1,12 +1,7 @@
 -- `fast::sweep::sweep_gaps` meets its contract. The loop's invariant: the bytes before slot i are written
 -- (`FilledBefore`).
-use Prim.Native.Nat.{◌-◌, ◌<◌}
 use native.Mathlib.Omega.{arith}
-use mathlib.Core.Logic.{◌↔◌, ◌⊎◌}
-use mathlib.Core.Path.{◌≡◌}
-use Rattle.requests.specs.Solution.{sentinel}
-use Rattle.fast.proofs.FilledBefore.{FilledBefore, filled-start, filled-step}
-use Rattle.fast.specs.Sweep.{GapAt}
+use Rattle.fast.proofs.FilledBefore.{filled-start, filled-step}
 use Rattle.fast.proofs.sweep.sweep_gaps.Goals as goal
 
 pub loop-i-init : goal.loop-i-init

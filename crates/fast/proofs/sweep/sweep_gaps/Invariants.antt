@@ -1,11 +1,10 @@
 -- `fast::sweep::sweep_gaps` meets its contract. The loop's invariant: the bytes before slot i are written
 -- (`FilledBefore`).
 use Prim.Native.Nat.{◌-◌, ◌<◌}
-use native.Mathlib.Omega.{arith}
 use mathlib.Core.Logic.{◌↔◌, ◌⊎◌}
 use mathlib.Core.Path.{◌≡◌}
 use Rattle.requests.specs.Solution.{sentinel}
-use Rattle.fast.proofs.FilledBefore.{FilledBefore, filled-start, filled-step}
+use Rattle.fast.proofs.FilledBefore.{FilledBefore}
 use Rattle.fast.specs.Sweep.{GapAt}
 use Rattle.fast.proofs.sweep.sweep_gaps.Given as goal
 

@@ -1,22 +1,16 @@
 -- `fast::sweep::sweep_windows` meets its contract. The loop's invariant: the ends from the slots before slot x on are
 -- written (`FilledBefore`).
-use Prim.Native.Nat.{◌-◌, ◌<◌}
 use native.Mathlib.Numerals.{add-one}
 use native.Mathlib.Omega.{arith}
 use mathlib.Core.Path.{refl}
-use Rattle.requests.specs.Solution.{sentinel}
-use Rattle.fast.proofs.FilledBefore.{FilledBefore, filled-start, filled-step}
-use Rattle.fast.specs.Sweep.{Further}
+use Rattle.fast.proofs.FilledBefore.{filled-start, filled-step}
 use Rattle.fast.proofs.sweep.sweep_windows.Goals as goal
 
 pub loop-x-init : goal.loop-x-init
 loop-x-init c = filled-start
 
 pub further-requires : goal.further-requires
-further-requires c =
-    let at-loop = c.before in
-    let pre = at-loop.requires in
-    (omega arith, omega (arith, pre.6 at-loop.loop-x.x (omega arith)))
+further-requires c = (omega arith, omega (arith, c.requires.6 c.loop-x.x (omega arith)))
 
 pub loop-x-preserved : goal.loop-x-preserved
 loop-x-preserved c =

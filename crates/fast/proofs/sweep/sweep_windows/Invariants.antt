@@ -1,11 +1,8 @@
 -- `fast::sweep::sweep_windows` meets its contract. The loop's invariant: the ends from the slots before slot x on are
 -- written (`FilledBefore`).
 use Prim.Native.Nat.{◌-◌, ◌<◌}
-use native.Mathlib.Numerals.{add-one}
-use native.Mathlib.Omega.{arith}
-use mathlib.Core.Path.{refl}
 use Rattle.requests.specs.Solution.{sentinel}
-use Rattle.fast.proofs.FilledBefore.{FilledBefore, filled-start, filled-step}
+use Rattle.fast.proofs.FilledBefore.{FilledBefore}
 use Rattle.fast.specs.Sweep.{Further}
 use Rattle.fast.proofs.sweep.sweep_windows.Given as goal
 

@@ -1,16 +1,13 @@
 -- `fast::turned::free_slots` meets its contract. The loop's invariant: the bytes before slot i are written
 -- (`FilledBefore`).
-use Prim.Native.Nat.{ℕ, suc, ◌+◌, ◌-◌, ◌≤◌}
+use Prim.Native.Nat.{ℕ}
 use native.Mathlib.Omega.{arith}
-use mathlib.Core.Bool.{true}
-use mathlib.Core.Logic.{◌↔◌}
-use mathlib.Core.Path.{◌≡◌, ◌∙◌}
-use lib.ListN.{get_or, length-map, length-replicate}
+use mathlib.Core.Path.{◌∙◌}
+use lib.ListN.{length-map, length-replicate}
 use Rattle.rule.specs.ClassCodes.{decode}
-use Rattle.rule.specs.Ranges.{allows}
 use Rattle.settings.specs.Refusals.{limit}
 use Rattle.fast.proofs.FromSlot.{class-at}
-use Rattle.fast.proofs.FilledBefore.{FilledBefore, filled-start, filled-step}
+use Rattle.fast.proofs.FilledBefore.{filled-start, filled-step}
 use Rattle.fast.proofs.turned.free_slots.Goals as goal
 
 pub loop-i-init : goal.loop-i-init

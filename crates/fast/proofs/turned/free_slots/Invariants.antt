@@ -1,16 +1,13 @@
 -- `fast::turned::free_slots` meets its contract. The loop's invariant: the bytes before slot i are written
 -- (`FilledBefore`).
-use Prim.Native.Nat.{ℕ, suc, ◌+◌, ◌-◌, ◌≤◌}
-use native.Mathlib.Omega.{arith}
+use Prim.Native.Nat.{suc, ◌+◌, ◌-◌, ◌≤◌}
 use mathlib.Core.Bool.{true}
 use mathlib.Core.Logic.{◌↔◌}
-use mathlib.Core.Path.{◌≡◌, ◌∙◌}
-use lib.ListN.{get_or, length-map, length-replicate}
+use mathlib.Core.Path.{◌≡◌}
+use lib.ListN.{get_or}
 use Rattle.rule.specs.ClassCodes.{decode}
 use Rattle.rule.specs.Ranges.{allows}
-use Rattle.settings.specs.Refusals.{limit}
-use Rattle.fast.proofs.FromSlot.{class-at}
-use Rattle.fast.proofs.FilledBefore.{FilledBefore, filled-start, filled-step}
+use Rattle.fast.proofs.FilledBefore.{FilledBefore}
 use Rattle.fast.proofs.turned.free_slots.Given as goal
 
 abbrev pub invariant-loop-i : goal.invariant-loop-i

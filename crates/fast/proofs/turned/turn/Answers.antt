@@ -1,9 +1,8 @@
 -- `fast::turned::turn` meets its contract. The loop's invariant: the first i of the turned classes are written
 -- (`TurnedBefore`).
-use Prim.Native.Nat.{◌-◌}
 use native.Mathlib.Omega.{arith}
 use mathlib.Core.Path.{refl}
-use Rattle.fast.proofs.TurnLoop.{TurnedBefore, turn-start, turn_step, turn_end}
+use Rattle.fast.proofs.TurnLoop.{turn-start, turn_step, turn_end}
 use Rattle.fast.proofs.turned.turn.Goals as goal
 
 pub loop-i-init : goal.loop-i-init

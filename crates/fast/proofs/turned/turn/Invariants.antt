@@ -1,9 +1,7 @@
 -- `fast::turned::turn` meets its contract. The loop's invariant: the first i of the turned classes are written
 -- (`TurnedBefore`).
 use Prim.Native.Nat.{◌-◌}
-use native.Mathlib.Omega.{arith}
-use mathlib.Core.Path.{refl}
-use Rattle.fast.proofs.TurnLoop.{TurnedBefore, turn-start, turn_step, turn_end}
+use Rattle.fast.proofs.TurnLoop.{TurnedBefore}
 use Rattle.fast.proofs.turned.turn.Given as goal
 
 abbrev pub invariant-loop-i : goal.invariant-loop-i
