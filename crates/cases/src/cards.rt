@@ -9,79 +9,79 @@ use rule::Shape;
 use settings::{CountRange, PLACES, Settings};
 
 // The fields of `read`: no numbers; the bytes of a file, in hexadecimal.
-pub fn read(line: &[u8]) {
+pub fn read(rt: &impl Print, line: &[u8]) {
     let mut all = [0u8; MANY];
     let n = bytes(line, second(line), HEXADECIMAL, &mut all);
-    contents(&all[..n]);
+    contents(rt, &all[..n]);
 }
 
 // Writes what a view gives for each slot, up to the first refusal, and what the reader gives.
-pub fn contents(bytes: &[u8]) {
-    records(bytes);
-    file(bytes);
+pub fn contents(rt: &impl Print, bytes: &[u8]) {
+    records(rt, bytes);
+    file(rt, bytes);
 }
 
-fn records(file: &[u8]) {
+fn records(rt: &impl Print, file: &[u8]) {
     let mut slot = 0;
     while slot < PLACES {
-        if !viewed(file, slot) {
+        if !viewed(rt, file, slot) {
             return;
         }
         slot += 1;
     }
 }
 
-fn viewed(file: &[u8], slot: usize) -> bool {
-    write_number(b"slot ", slot as u64);
+fn viewed(rt: &impl Print, file: &[u8], slot: usize) -> bool {
+    write_number(rt, b"slot ", slot as u64);
     let found = view::viewed(file, slot);
     match found {
         Found::Refused(refusal) => {
-            write(b" ");
-            write_refusal(refusal);
-            write_line_feed();
+            write(rt, b" ");
+            write_refusal(rt, refusal);
+            write_line_feed(rt);
             false
         }
         Found::Record(range) => {
-            write_signed(b" ", range.lowest);
-            write_signed(b"..", range.highest);
-            write_line_feed();
+            write_signed(rt, b" ", range.lowest);
+            write_signed(rt, b"..", range.highest);
+            write_line_feed(rt);
             true
         }
     }
 }
 
 // Writes what the reader gives, and what the writer and the filter answer to it.
-fn file(file: &[u8]) {
+fn file(rt: &impl Print, file: &[u8]) {
     let mut lowest = [0i32; PLACES];
     let mut highest = [0i32; PLACES];
     match card::read(file, &mut lowest, &mut highest) {
         Reading::Refused(refusal) => {
-            write_refusal(refusal);
-            write_line_feed();
+            write_refusal(rt, refusal);
+            write_line_feed(rt);
         }
         Reading::Taken { settings, n } => {
-            write_settings(settings);
-            again(settings, n, &lowest, &highest, file);
-            request(settings, n, n, &mut lowest, &mut highest);
+            write_settings(rt, settings);
+            again(rt, settings, n, &lowest, &highest, file);
+            request(rt, settings, n, n, &mut lowest, &mut highest);
         }
     }
 }
 
-fn write_settings(settings: Settings) {
-    write_signed(b"k ", settings.k);
-    write_shape(settings.shape);
-    write_range(b" windows ", settings.windows);
-    write_range(b" covered ", settings.covered);
-    write_line_feed();
+fn write_settings(rt: &impl Print, settings: Settings) {
+    write_signed(rt, b"k ", settings.k);
+    write_shape(rt, settings.shape);
+    write_range(rt, b" windows ", settings.windows);
+    write_range(rt, b" covered ", settings.covered);
+    write_line_feed(rt);
 }
 
-fn write_shape(shape: Shape) {
-    write_count(b" len ", shape.len);
-    write_count(b" h ", shape.h);
-    write_count(b" settle ", shape.settle);
+fn write_shape(rt: &impl Print, shape: Shape) {
+    write_count(rt, b" len ", shape.len);
+    write_count(rt, b" h ", shape.h);
+    write_count(rt, b" settle ", shape.settle);
 }
 
-fn write_range(word: &[u8], range: CountRange) {
-    write_count(word, range.least);
-    write_count(b"..", range.most);
+fn write_range(rt: &impl Print, word: &[u8], range: CountRange) {
+    write_count(rt, word, range.least);
+    write_count(rt, b"..", range.most);
 }

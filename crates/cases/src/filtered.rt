@@ -11,20 +11,28 @@ use judge::judge;
 use settings::{PLACES, Settings};
 
 // The fields of `filter`: the settings; the lowest loads; the highest loads.
-pub fn filtered(line: &[u8]) {
+pub fn filtered(rt: &impl Print, line: &[u8]) {
     let mut lowest = [0i32; PLACES];
     let n = numbers(line, second(line), DECIMAL, &mut lowest);
     let mut highest = [0i32; PLACES];
     let m = numbers(line, third(line), DECIMAL, &mut highest);
-    request(settings(line), n, m, &mut lowest, &mut highest);
+    request(rt, settings(line), n, m, &mut lowest, &mut highest);
 }
 
 // Asks the filter about the first n lowest and the first m highest loads.
-pub fn request(settings: Settings, n: usize, m: usize, lowest: &mut [i32], highest: &mut [i32])
+pub fn request(
+    rt: &impl Print,
+    settings: Settings,
+    n: usize,
+    m: usize,
+    lowest: &mut [i32],
+    highest: &mut [i32],
+)
     requires { (n ≤ length lowest.old) × (m ≤ length highest.old) × (n ≤ places) }
 {
     let mut marks = [0u8; PLACES];
     planned(
+        rt,
         settings,
         &mut lowest[..n],
         &mut highest[..m],
@@ -33,23 +41,36 @@ pub fn request(settings: Settings, n: usize, m: usize, lowest: &mut [i32], highe
 }
 
 // Writes the answer as the plan printer does, and for a plan what the judge says of it.
-fn planned(settings: Settings, lowest: &mut [i32], highest: &mut [i32], marks: &mut [u8]) {
+fn planned(
+    rt: &impl Print,
+    settings: Settings,
+    lowest: &mut [i32],
+    highest: &mut [i32],
+    marks: &mut [u8],
+) {
     let answer = filter(settings, lowest, highest, marks);
-    listed(answer, lowest, highest, marks);
-    allowed(answer, settings, lowest, highest, marks);
+    listed(rt, answer, lowest, highest, marks);
+    allowed(rt, answer, settings, lowest, highest, marks);
 }
 
-fn listed(answer: Answer, lowest: &[i32], highest: &[i32], marks: &[u8]) {
-    let mut text = io::buffer();
+fn listed(rt: &impl Print, answer: Answer, lowest: &[i32], highest: &[i32], marks: &[u8]) {
+    let mut text = [0; 4096];
     let length = listing::write_answer(answer, lowest, highest, marks, &mut text);
-    write(&text[..length]);
+    write(rt, &text[..length]);
 }
 
-fn allowed(answer: Answer, settings: Settings, lowest: &mut [i32], highest: &[i32], marks: &[u8]) {
+fn allowed(
+    rt: &impl Print,
+    answer: Answer,
+    settings: Settings,
+    lowest: &mut [i32],
+    highest: &[i32],
+    marks: &[u8],
+) {
     if let Answer::Planned(_) = answer {
         settle(lowest, highest, marks);
-        write(b"judge ");
-        write_verdict(judge(settings, lowest, marks));
+        write(rt, b"judge ");
+        write_verdict(rt, judge(settings, lowest, marks));
     }
 }
 

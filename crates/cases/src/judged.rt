@@ -7,29 +7,29 @@ use judge::{Verdict, judge};
 use settings::PLACES;
 
 // The fields of `judge`: the settings; the loads; the marks.
-pub fn judged(line: &[u8]) {
+pub fn judged(rt: &impl Print, line: &[u8]) {
     let mut loads = [0i32; PLACES];
     let n = numbers(line, second(line), DECIMAL, &mut loads);
     let mut marks = [0u8; PLACES];
     let m = bytes(line, third(line), DECIMAL, &mut marks);
-    write_verdict(judge(settings(line), &loads[..n], &marks[..m]));
+    write_verdict(rt, judge(settings(line), &loads[..n], &marks[..m]));
 }
 
 // Writes yes with both counts, no, or the number of the refusal.
-pub fn write_verdict(verdict: Verdict) {
+pub fn write_verdict(rt: &impl Print, verdict: Verdict) {
     match verdict {
         Verdict::Yes { windows, covered } => {
-            write_count(b"yes ", windows);
-            write_count(b" ", covered);
+            write_count(rt, b"yes ", windows);
+            write_count(rt, b" ", covered);
         }
-        Verdict::No => write(b"no"),
-        Verdict::Refused(refusal) => write_refusal(refusal),
+        Verdict::No => write(rt, b"no"),
+        Verdict::Refused(refusal) => write_refusal(rt, refusal),
     }
-    write_line_feed();
+    write_line_feed(rt);
 }
 
 // The fields of `choose`: the settings; the loads; the marks of one plan; the marks of the other.
-pub fn chosen(line: &[u8]) {
+pub fn chosen(rt: &impl Print, line: &[u8]) {
     let mut loads = [0i32; PLACES];
     let n = numbers(line, second(line), DECIMAL, &mut loads);
     let mut first = [0u8; PLACES];
@@ -38,5 +38,5 @@ pub fn chosen(line: &[u8]) {
     let mut other = [0u8; PLACES];
     let o = bytes(line, after_byte(line, at, b';'), DECIMAL, &mut other);
     let plan = choose(settings(line), &loads[..n], &first[..m], &other[..o]);
-    write_bytes(b"marks", plan, DECIMAL);
+    write_bytes(rt, b"marks", plan, DECIMAL);
 }

@@ -3,6 +3,8 @@
 // is, and below it what the operation gave.
 #![tactic(auto)]
 
+ghost use Rattle.std.specs.Prelude.{◌≤◌, length};
+
 use crate::cards::read;
 use crate::filtered::filtered;
 use crate::judged::{chosen, judged};
@@ -11,7 +13,7 @@ use crate::show::write;
 use crate::text::after_byte;
 use crate::watched::{stepped, watched};
 use crate::written::made;
-use libc::STDIN_FILENO;
+use std::io::Read;
 
 mod cards;
 mod filtered;
@@ -23,39 +25,56 @@ mod text;
 mod watched;
 mod written;
 
-fn main() {
-    let mut buffer = io::large_buffer();
-    let size = io::read_full(STDIN_FILENO, &mut buffer);
-    each_line(&buffer[..size]);
+// The most bytes of standard input that are read.
+const HELD_BYTES: usize = 65536;
+
+fn main(rt: HostRuntime) {
+    let mut buffer = [0; HELD_BYTES];
+    let size = read_full(&mut rt.stdin(), &mut buffer);
+    each_line(&rt, &buffer[..size]);
 }
 
-fn each_line(text: &[u8]) {
+// Reads until the slice is full, the input ends or a read fails, and gives how many bytes it put at the slice's start.
+fn read_full(from: &mut impl Read, out: &mut [u8]) -> usize
+    ensures { result ≤ length out.new }
+{
+    let mut size = 0;
+    while size < out.len() {
+        match from.read(&mut out[size..]) {
+            Ok(0) | Err(_) => break,
+            Ok(n) => size += n,
+        }
+    }
+    size
+}
+
+fn each_line(rt: &impl Print, text: &[u8]) {
     let mut start = 0;
     while start < text.len() {
         let end = after_byte(text, start, b'\n');
-        line(&text[start..end]);
+        line(rt, &text[start..end]);
         start = end;
     }
 }
 
-fn line(line: &[u8]) {
-    write(line);
+fn line(rt: &impl Print, line: &[u8]) {
+    write(rt, line);
     if line.len() > 0 {
-        operation(line[0], line);
+        operation(rt, line[0], line);
     }
 }
 
 // An operation is known by its first letter. A line that begins otherwise, such as a comment, is only written.
-fn operation(letter: u8, line: &[u8]) {
+fn operation(rt: &impl Print, letter: u8, line: &[u8]) {
     match letter {
-        b'f' => filtered(line),
-        b'j' => judged(line),
-        b'c' => chosen(line),
-        b'p' => paged(line),
-        b'w' => watched(line),
-        b's' => stepped(line),
-        b'r' => read(line),
-        b'm' => made(line),
+        b'f' => filtered(rt, line),
+        b'j' => judged(rt, line),
+        b'c' => chosen(rt, line),
+        b'p' => paged(rt, line),
+        b'w' => watched(rt, line),
+        b's' => stepped(rt, line),
+        b'r' => read(rt, line),
+        b'm' => made(rt, line),
         _ => {}
     }
 }

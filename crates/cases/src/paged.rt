@@ -12,7 +12,7 @@ use settings::{PLACES, Settings};
 const MOST: u16 = 4096;
 
 // The fields of `page`: the settings; the lowest loads; the highest loads; and for a single page, the given plan.
-pub fn paged(line: &[u8]) {
+pub fn paged(rt: &impl Print, line: &[u8]) {
     let mut lowest = [0i32; PLACES];
     let n = numbers(line, second(line), DECIMAL, &mut lowest);
     let mut highest = [0i32; PLACES];
@@ -20,14 +20,14 @@ pub fn paged(line: &[u8]) {
     let m = numbers(line, at, DECIMAL, &mut highest);
     let from = after_byte(line, at, b';');
     if from < line.len() {
-        single(line, from, &lowest[..n], &highest[..m]);
+        single(rt, line, from, &lowest[..n], &highest[..m]);
     } else {
-        each_plan(settings(line), &lowest[..n], &highest[..m]);
+        each_plan(rt, settings(line), &lowest[..n], &highest[..m]);
     }
 }
 
 // Asks for the page after the plan that is given in the field that begins at `from`.
-fn single(line: &[u8], from: usize, lowest: &[i32], highest: &[i32])
+fn single(rt: &impl Print, line: &[u8], from: usize, lowest: &[i32], highest: &[i32])
     requires { length lowest.now ≤ places }
 {
     let n = lowest.len();
@@ -35,6 +35,7 @@ fn single(line: &[u8], from: usize, lowest: &[i32], highest: &[i32])
     let m = bytes(line, from, DECIMAL, &mut given);
     let mut marks = [0u8; PLACES];
     next(
+        rt,
         settings(line),
         lowest,
         highest,
@@ -44,20 +45,27 @@ fn single(line: &[u8], from: usize, lowest: &[i32], highest: &[i32])
 }
 
 // Writes the next plan after the given one, or that there is none, or the number of the refusal.
-fn next(settings: Settings, lowest: &[i32], highest: &[i32], given: &[u8], marks: &mut [u8]) {
+fn next(
+    rt: &impl Print,
+    settings: Settings,
+    lowest: &[i32],
+    highest: &[i32],
+    given: &[u8],
+    marks: &mut [u8],
+) {
     let page = next_plan(settings, lowest, highest, given, marks);
     match page {
-        Page::Next => write_bytes(b"next", marks, DECIMAL),
-        Page::End => write(b"no further one\n"),
+        Page::Next => write_bytes(rt, b"next", marks, DECIMAL),
+        Page::End => write(rt, b"no further one\n"),
         Page::Refused(refusal) => {
-            write_refusal(refusal);
-            write_line_feed();
+            write_refusal(rt, refusal);
+            write_line_feed(rt);
         }
     }
 }
 
 // Pages from the empty slice to the end.
-fn each_plan(settings: Settings, lowest: &[i32], highest: &[i32])
+fn each_plan(rt: &impl Print, settings: Settings, lowest: &[i32], highest: &[i32])
     requires { length lowest.now ≤ places }
 {
     let n = lowest.len();
@@ -67,6 +75,7 @@ fn each_plan(settings: Settings, lowest: &[i32], highest: &[i32])
     while plans < MOST {
         let mut marks = [0u8; PLACES];
         if !turned(
+            rt,
             settings,
             lowest,
             highest,
@@ -84,6 +93,7 @@ fn each_plan(settings: Settings, lowest: &[i32], highest: &[i32])
 
 // Writes the next plan and gives true, or writes how many there were, or the number of the refusal, and gives false.
 fn turned(
+    rt: &impl Print,
     settings: Settings,
     lowest: &[i32],
     highest: &[i32],
@@ -94,12 +104,12 @@ fn turned(
     let page = next_plan(settings, lowest, highest, given, marks);
     match page {
         Page::Next => {
-            write_bytes(b"plan", marks, DECIMAL);
+            write_bytes(rt, b"plan", marks, DECIMAL);
             return true;
         }
-        Page::End => write_count(b"plans ", plans),
-        Page::Refused(refusal) => write_refusal(refusal),
+        Page::End => write_count(rt, b"plans ", plans),
+        Page::Refused(refusal) => write_refusal(rt, refusal),
     }
-    write_line_feed();
+    write_line_feed(rt);
     false
 }

@@ -3,48 +3,47 @@ ghost use Rattle.std.specs.Prelude.{◌<◌};
 
 use crate::numbers::magnitude;
 use crate::text::HEXADECIMAL;
-use libc::STDOUT_FILENO;
 use refusals::Refusal;
 
-pub fn write(text: &[u8]) {
-    io::write_all(STDOUT_FILENO, text);
+pub fn write(rt: &impl Print, text: &[u8]) {
+    let _ = rt.write_all(text);
 }
 
 // A number with a word before it.
-pub fn write_number(word: &[u8], n: u64) {
-    write(word);
-    io::print_decimal(STDOUT_FILENO, n);
+pub fn write_number(rt: &impl Print, word: &[u8], n: u64) {
+    write(rt, word);
+    let _ = rt.print(n);
 }
 
-pub fn write_count(word: &[u8], n: u16) {
-    write_number(word, n as u64);
+pub fn write_count(rt: &impl Print, word: &[u8], n: u16) {
+    write_number(rt, word, n as u64);
 }
 
-pub fn write_signed(word: &[u8], x: i32) {
-    write(word);
+pub fn write_signed(rt: &impl Print, word: &[u8], x: i32) {
+    write(rt, word);
     if x < 0 {
-        write(b"-");
+        write(rt, b"-");
     }
-    io::print_decimal(STDOUT_FILENO, magnitude(x) as u64);
+    let _ = rt.print(magnitude(x));
 }
 
 // A line of bytes after a word, each as a number in a base. In hexadecimal each has two digits.
-pub fn write_bytes(word: &[u8], bytes: &[u8], base: u32) {
-    write(word);
+pub fn write_bytes(rt: &impl Print, word: &[u8], bytes: &[u8], base: u32) {
+    write(rt, word);
     let mut i = 0;
     while i < bytes.len() {
-        write_byte(bytes[i], base);
+        write_byte(rt, bytes[i], base);
         i += 1;
     }
-    write_line_feed();
+    write_line_feed(rt);
 }
 
-fn write_byte(byte: u8, base: u32) {
+fn write_byte(rt: &impl Print, byte: u8, base: u32) {
     if base == HEXADECIMAL {
-        write(&[b' ', digit(byte / 16), digit(byte % 16)]);
+        write(rt, &[b' ', digit(byte / 16), digit(byte % 16)]);
         return;
     }
-    write_count(b" ", byte as u16);
+    write_count(rt, b" ", byte as u16);
 }
 
 fn digit(n: u8) -> u8
@@ -54,14 +53,14 @@ fn digit(n: u8) -> u8
 }
 
 // The number of a refusal, and for 31 also the slot.
-pub fn write_refusal(refusal: Refusal) {
+pub fn write_refusal(rt: &impl Print, refusal: Refusal) {
     let number = refusal.number();
-    write_count(b"refused ", number);
+    write_count(rt, b"refused ", number);
     if number == 31 {
-        write_number(b" slot ", refusal.slot() as u64);
+        write_number(rt, b" slot ", refusal.slot() as u64);
     }
 }
 
-pub fn write_line_feed() {
-    write(b"\n");
+pub fn write_line_feed(rt: &impl Print) {
+    write(rt, b"\n");
 }

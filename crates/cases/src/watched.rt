@@ -7,13 +7,13 @@ use watch::{Answer, Started, Watch};
 
 // The fields of `watch`: k, len, h and, if there are rounds, their number; the loads; the loads of a round. The rounds
 // are taken before the loads.
-pub fn watched(line: &[u8]) {
+pub fn watched(rt: &impl Print, line: &[u8]) {
     let started = start(line);
     match started {
-        Started::Watching(watch) => write_steps(rounds(watch, line), line),
+        Started::Watching(watch) => write_steps(rt, rounds(watch, line), line),
         Started::Refused(refusal) => {
-            write_refusal(refusal);
-            write_line_feed();
+            write_refusal(rt, refusal);
+            write_line_feed(rt);
         }
     }
 }
@@ -24,7 +24,7 @@ fn start(line: &[u8]) -> Started {
 
 // The fields of `step`: a state, which is k, len, h, the slots taken, the windows, and the slots and bridges left to
 // the active window; the loads.
-pub fn stepped(line: &[u8]) {
+pub fn stepped(rt: &impl Print, line: &[u8]) {
     let watch = Watch {
         k: first(line, 0),
         len: short(line, 1),
@@ -34,7 +34,7 @@ pub fn stepped(line: &[u8]) {
         room: short(line, 5),
         spare: short(line, 6),
     };
-    write_steps(watch, line);
+    write_steps(rt, watch, line);
 }
 
 fn rounds(watch: Watch, line: &[u8]) -> Watch {
@@ -55,53 +55,53 @@ fn each_round(watch: Watch, loads: &[i32], n: u32) -> Watch {
 }
 
 // Writes the state, and then what each load leads to.
-fn write_steps(watch: Watch, line: &[u8]) {
-    write_state(watch);
+fn write_steps(rt: &impl Print, watch: Watch, line: &[u8]) {
+    write_state(rt, watch);
     let mut loads = [0i32; PLACES];
     let n = numbers(line, second(line), DECIMAL, &mut loads);
-    each_step(watch, &loads[..n]);
+    each_step(rt, watch, &loads[..n]);
 }
 
-fn each_step(watch: Watch, loads: &[i32]) {
+fn each_step(rt: &impl Print, watch: Watch, loads: &[i32]) {
     let mut now = watch;
     let mut i = 0;
     while i < loads.len() {
-        now = step(now, loads[i]);
+        now = step(rt, now, loads[i]);
         i += 1;
     }
 }
 
 // Takes one load, writes the answer and the state that came back, and gives that state.
-fn step(watch: Watch, load: i32) -> Watch {
+fn step(rt: &impl Print, watch: Watch, load: i32) -> Watch {
     let stepped = watch.step(load);
     let answer = stepped.answer;
-    write_answer(answer);
+    write_answer(rt, answer);
     let after = stepped.watch;
-    write_state(after);
+    write_state(rt, after);
     after
 }
 
-fn write_answer(answer: Answer) {
+fn write_answer(rt: &impl Print, answer: Answer) {
     match answer {
         Answer::Taken { opened } => {
             if opened {
-                write(b"opened: ");
+                write(rt, b"opened: ");
             } else {
-                write(b"taken: ");
+                write(rt, b"taken: ");
             }
         }
         Answer::Refused(refusal) => {
-            write_refusal(refusal);
-            write(b": ");
+            write_refusal(rt, refusal);
+            write(rt, b": ");
         }
     }
 }
 
 // Writes the slots taken, the windows, and the slots and bridges left to the active window.
-fn write_state(watch: Watch) {
-    write_number(b"slots ", watch.taken as u64);
-    write_number(b" windows ", watch.windows as u64);
-    write_count(b" left ", watch.room);
-    write_count(b" ", watch.spare);
-    write_line_feed();
+fn write_state(rt: &impl Print, watch: Watch) {
+    write_number(rt, b"slots ", watch.taken as u64);
+    write_number(rt, b" windows ", watch.windows as u64);
+    write_count(rt, b" left ", watch.room);
+    write_count(rt, b" ", watch.spare);
+    write_line_feed(rt);
 }

@@ -12,7 +12,7 @@ use writer::Writing;
 const BEFORE: u8 = 0xee;
 
 // The fields of `make`: the settings; the lowest loads; the highest loads; the length of the buffer, at most MANY.
-pub fn made(line: &[u8]) {
+pub fn made(rt: &impl Print, line: &[u8]) {
     let mut lowest = [0i32; PLACES];
     let n = numbers(line, second(line), DECIMAL, &mut lowest);
     let mut highest = [0i32; PLACES];
@@ -21,6 +21,7 @@ pub fn made(line: &[u8]) {
     let mut buffer = [BEFORE; MANY];
     let size = size(line, after_byte(line, at, b';'));
     stored(
+        rt,
         settings(line),
         &lowest[..n],
         &highest[..m],
@@ -41,39 +42,52 @@ fn size(line: &[u8], from: usize) -> usize
 }
 
 // Writes the length of the file, what the buffer holds then, and what the file holds by the view and the reader.
-fn stored(settings: Settings, lowest: &[i32], highest: &[i32], out: &mut [u8]) {
-    let length = store(settings, lowest, highest, out);
+fn stored(rt: &impl Print, settings: Settings, lowest: &[i32], highest: &[i32], out: &mut [u8]) {
+    let length = store(rt, settings, lowest, highest, out);
     if length > 0 {
-        write_number(b"stored ", length as u64);
-        write_bytes(b" in", out, HEXADECIMAL);
-        contents(&out[..length]);
+        write_number(rt, b"stored ", length as u64);
+        write_bytes(rt, b" in", out, HEXADECIMAL);
+        contents(rt, &out[..length]);
     }
 }
 
 // Writes how many bytes the writer stores for a request of n slots that was read from a file, and whether these are the
 // last bytes of the file.
-pub fn again(settings: Settings, n: usize, lowest: &[i32], highest: &[i32], file: &[u8])
+pub fn again(
+    rt: &impl Print,
+    settings: Settings,
+    n: usize,
+    lowest: &[i32],
+    highest: &[i32],
+    file: &[u8],
+)
     requires { (n ≤ length lowest.now) × (n ≤ length highest.now) }
 {
     let mut buffer = [BEFORE; MANY];
-    let length = store(settings, &lowest[..n], &highest[..n], &mut buffer);
+    let length = store(rt, settings, &lowest[..n], &highest[..n], &mut buffer);
     if length > 0 {
-        write_number(b"stored again ", length as u64);
+        write_number(rt, b"stored again ", length as u64);
         if ends_with(file, &buffer[..length]) {
-            write(b" alike");
+            write(rt, b" alike");
         }
-        write_line_feed();
+        write_line_feed(rt);
     }
 }
 
 // Gives the length of the file that is stored; where the writer refuses, writes the refusal and gives 0.
-fn store(settings: Settings, lowest: &[i32], highest: &[i32], out: &mut [u8]) -> usize
+fn store(
+    rt: &impl Print,
+    settings: Settings,
+    lowest: &[i32],
+    highest: &[i32],
+    out: &mut [u8],
+) -> usize
     ensures { (result ≤ length out.new) × (result ≡ length (take result out.new)) }
 {
     match writer::write(settings, lowest, highest, out) {
         Writing::Refused(refusal) => {
-            write_refusal(refusal);
-            write_line_feed();
+            write_refusal(rt, refusal);
+            write_line_feed(rt);
             0
         }
         Writing::Stored { length } => length,

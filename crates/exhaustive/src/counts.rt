@@ -1,6 +1,4 @@
 // Counts of comparisons, and the parts of a line of output.
-use libc::STDOUT_FILENO;
-
 // How many were compared, how many of these were planned, judged yes, have a window, have a next plan or break a rule
 // that need not hold, and how many differ.
 #[derive(Clone, Copy)]
@@ -31,17 +29,17 @@ pub fn add(count: u32, more: bool) -> u32 {
     count + 1
 }
 
-pub fn write(text: &[u8]) {
-    io::write_all(STDOUT_FILENO, text);
+pub fn write(rt: &impl Print, text: &[u8]) {
+    let _ = rt.write_all(text);
 }
 
-pub fn write_count(count: u32) {
-    write(b" ");
-    io::print_decimal(STDOUT_FILENO, count as u64);
+pub fn write_count(rt: &impl Print, count: u32) {
+    write(rt, b" ");
+    let _ = rt.print(count);
 }
 
-pub fn end_line(differ: u32) {
-    write(b" differ");
-    write_count(differ);
-    write(b"\n");
+pub fn end_line(rt: &impl Print, differ: u32) {
+    write(rt, b" differ");
+    write_count(rt, differ);
+    write(rt, b"\n");
 }

@@ -41,25 +41,25 @@ mod settled;
 mod table;
 mod watched;
 
-fn main() {
-    let plans = compare(0) & compare(1) & compare(2) & compare(3);
-    let watches = run(Kind::Watched, 0, 1, 9);
-    let refusals = refused::run(Operation::Filter, FILTER_CALLS, CALLS)
-        & refused::run(Operation::Judge, JUDGE_CALLS, CALLS)
-        & refused::run(Operation::Start, STARTS, STARTS)
-        & refused::run(Operation::Writer, FILTER_CALLS, CALLS)
-        & refused::run(Operation::Paging, 0, PAGING_CALLS);
+fn main(rt: HostRuntime) {
+    let plans = compare(&rt, 0) & compare(&rt, 1) & compare(&rt, 2) & compare(&rt, 3);
+    let watches = run(&rt, Kind::Watched, 0, 1, 9);
+    let refusals = refused::run(&rt, Operation::Filter, FILTER_CALLS, CALLS)
+        & refused::run(&rt, Operation::Judge, JUDGE_CALLS, CALLS)
+        & refused::run(&rt, Operation::Start, STARTS, STARTS)
+        & refused::run(&rt, Operation::Writer, FILTER_CALLS, CALLS)
+        & refused::run(&rt, Operation::Paging, 0, PAGING_CALLS);
     if plans & watches & refusals {
-        write(b"all agree\n");
+        write(&rt, b"all agree\n");
     }
 }
 
-fn compare(settle: u16) -> bool {
-    run(Kind::Filtered, settle, 1, 6)
-        & run(Kind::Filtered, settle, 6, 9)
-        & run(Kind::Judged, settle, 1, 5)
-        & run(Kind::Paged, settle, 1, 9)
-        & run(Kind::Loosened, settle, 1, 9)
-        & run(Kind::SettledUnder, settle, 1, 9)
-        & run(Kind::SettledOver, settle, 1, 9)
+fn compare(rt: &impl Print, settle: u16) -> bool {
+    run(rt, Kind::Filtered, settle, 1, 6)
+        & run(rt, Kind::Filtered, settle, 6, 9)
+        & run(rt, Kind::Judged, settle, 1, 5)
+        & run(rt, Kind::Paged, settle, 1, 9)
+        & run(rt, Kind::Loosened, settle, 1, 9)
+        & run(rt, Kind::SettledUnder, settle, 1, 9)
+        & run(rt, Kind::SettledOver, settle, 1, 9)
 }

@@ -39,7 +39,7 @@ const NUMBERS: [u32; 13] = [21, 22, 34, 23, 24, 25, 26, 27, 31, 28, 18, 35, 0];
 
 // Compares every call whose number is below `every`, and from there on to below end samples; prints a line, and gives
 // whether all agree.
-pub fn run(operation: Operation, every: u32, end: u32) -> bool {
+pub fn run(rt: &impl Print, operation: Operation, every: u32, end: u32) -> bool {
     let mut met: [u32; 36] = [0; 36];
     let mut calls = 0;
     let mut differ = 0;
@@ -52,10 +52,10 @@ pub fn run(operation: Operation, every: u32, end: u32) -> bool {
         differ = add(differ, !agrees(operation, call, number));
         i += step(i, every);
     }
-    write_operation(operation);
-    write_count(calls);
-    write_met(met);
-    end_line(differ);
+    write_operation(rt, operation);
+    write_count(rt, calls);
+    write_met(rt, met);
+    end_line(rt, differ);
     differ == 0
 }
 
@@ -265,30 +265,30 @@ fn started(call: u32) -> u16 {
     }
 }
 
-fn write_operation(operation: Operation) {
+fn write_operation(rt: &impl Print, operation: Operation) {
     match operation {
-        Operation::Filter => write(b"filter calls"),
-        Operation::Judge => write(b"judge calls"),
-        Operation::Start => write(b"watch starts"),
-        Operation::Writer => write(b"writer calls"),
-        Operation::Paging => write(b"paging calls"),
+        Operation::Filter => write(rt, b"filter calls"),
+        Operation::Judge => write(rt, b"judge calls"),
+        Operation::Start => write(rt, b"watch starts"),
+        Operation::Writer => write(rt, b"writer calls"),
+        Operation::Paging => write(rt, b"paging calls"),
     }
 }
 
-fn write_met(met: [u32; 36]) {
-    write(b" met");
+fn write_met(rt: &impl Print, met: [u32; 36]) {
+    write(rt, b" met");
     let mut i = 0;
     while i < 13 {
-        write_number(NUMBERS[i], met);
+        write_number(rt, NUMBERS[i], met);
         i += 1;
     }
 }
 
 // A number that is not met is left out.
-fn write_number(number: u32, met: [u32; 36]) {
+fn write_number(rt: &impl Print, number: u32, met: [u32; 36]) {
     let count = met[number as usize % 36];
     if count > 0 {
-        write_count(number);
-        write_count(count);
+        write_count(rt, number);
+        write_count(rt, count);
     }
 }

@@ -45,7 +45,7 @@ const FIXED: [u32; 9] = [
 
 // Compares at every number of slots from first to below end, with this settle count, prints a line, and gives whether
 // all agree.
-pub fn run(kind: Kind, settle: u16, first: u16, end: u16) -> bool
+pub fn run(rt: &impl Print, kind: Kind, settle: u16, first: u16, end: u16) -> bool
     requires { end ≤ 9 }
 {
     let mut tally = Tally {
@@ -56,6 +56,7 @@ pub fn run(kind: Kind, settle: u16, first: u16, end: u16) -> bool
     let mut n = first;
     while n < end {
         tally = every(
+            rt,
             tally,
             kind,
             n,
@@ -65,18 +66,26 @@ pub fn run(kind: Kind, settle: u16, first: u16, end: u16) -> bool
         );
         n += 1;
     }
-    print(kind, settle, first, tally);
+    print(rt, kind, settle, first, tally);
     tally.differ == 0
 }
 
 // Adds the comparisons at n slots: their numbers go from 0 to below end by steps.
-fn every(before: Tally, kind: Kind, n: u16, settle: u16, end: u32, step: usize) -> Tally
+fn every(
+    rt: &impl Print,
+    before: Tally,
+    kind: Kind,
+    n: u16,
+    settle: u16,
+    end: u32,
+    step: usize,
+) -> Tally
     requires { (n ≤ 8) × (0 < step) × (step < 4294967296) }
 {
     let mut tally = before;
     let mut number: usize = 0;
     while number < end as usize {
-        tally = add(tally, kind, n, settle, number);
+        tally = add(rt, tally, kind, n, settle, number);
         number += step;
     }
     tally
@@ -135,7 +144,7 @@ fn paged_step(n: u16) -> usize
 }
 
 // Adds one comparison. The first few that differ are printed, each by its slots, its settle count and its number.
-fn add(before: Tally, kind: Kind, n: u16, settle: u16, number: usize) -> Tally
+fn add(rt: &impl Print, before: Tally, kind: Kind, n: u16, settle: u16, number: usize) -> Tally
     requires { n ≤ 8 }
 {
     if !is_accepted(n, number) {
@@ -143,17 +152,17 @@ fn add(before: Tally, kind: Kind, n: u16, settle: u16, number: usize) -> Tally
     }
     let after = compare(before, kind, n, settle, number);
     if (after.differ > before.differ) & (before.differ < 5) {
-        name(n, settle, number);
+        name(rt, n, settle, number);
     }
     after
 }
 
-fn name(n: u16, settle: u16, number: usize) {
-    write(b"differs");
-    write_count(n as u32);
-    write_count(settle as u32);
-    write_count((number % 4294967296) as u32);
-    write(b"\n");
+fn name(rt: &impl Print, n: u16, settle: u16, number: usize) {
+    write(rt, b"differs");
+    write_count(rt, n as u32);
+    write_count(rt, settle as u32);
+    write_count(rt, (number % 4294967296) as u32);
+    write(rt, b"\n");
 }
 
 fn compare(tally: Tally, kind: Kind, n: u16, settle: u16, number: usize) -> Tally
@@ -170,49 +179,49 @@ fn compare(tally: Tally, kind: Kind, n: u16, settle: u16, number: usize) -> Tall
     }
 }
 
-fn print(kind: Kind, settle: u16, first: u16, tally: Tally) {
+fn print(rt: &impl Print, kind: Kind, settle: u16, first: u16, tally: Tally) {
     if settle > 0 {
-        write(b"settle");
-        write_count(settle as u32);
-        write(b" ");
+        write(rt, b"settle");
+        write_count(rt, settle as u32);
+        write(rt, b" ");
     }
     if first > 5 {
-        write(b"longer ");
+        write(rt, b"longer ");
     }
-    write_kind(kind);
-    write_count(tally.compared);
-    write_met(kind, settle);
-    write_count(tally.met);
-    end_line(tally.differ);
+    write_kind(rt, kind);
+    write_count(rt, tally.compared);
+    write_met(rt, kind, settle);
+    write_count(rt, tally.met);
+    end_line(rt, tally.differ);
 }
 
-fn write_kind(kind: Kind) {
+fn write_kind(rt: &impl Print, kind: Kind) {
     match kind {
-        Kind::Filtered => write(b"requests"),
-        Kind::Judged => write(b"plans"),
-        Kind::Watched => write(b"watches"),
-        Kind::Loosened => write(b"loosenings"),
-        Kind::SettledUnder => write(b"settlings under"),
-        Kind::SettledOver => write(b"settlings over"),
-        Kind::Paged => write(b"pages"),
+        Kind::Filtered => write(rt, b"requests"),
+        Kind::Judged => write(rt, b"plans"),
+        Kind::Watched => write(rt, b"watches"),
+        Kind::Loosened => write(rt, b"loosenings"),
+        Kind::SettledUnder => write(rt, b"settlings under"),
+        Kind::SettledOver => write(rt, b"settlings over"),
+        Kind::Paged => write(rt, b"pages"),
     }
 }
 
-fn write_met(kind: Kind, settle: u16) {
+fn write_met(rt: &impl Print, kind: Kind, settle: u16) {
     match kind {
-        Kind::Judged => write(b" yes"),
-        Kind::Watched => write(b" with windows"),
-        Kind::Paged => write(b" next"),
-        Kind::SettledUnder => write_settled(settled::holds(settle, false)),
-        Kind::SettledOver => write_settled(settled::holds(settle, true)),
-        _ => write(b" planned"),
+        Kind::Judged => write(rt, b" yes"),
+        Kind::Watched => write(rt, b" with windows"),
+        Kind::Paged => write(rt, b" next"),
+        Kind::SettledUnder => write_settled(rt, settled::holds(settle, false)),
+        Kind::SettledOver => write_settled(rt, settled::holds(settle, true)),
+        _ => write(rt, b" planned"),
     }
 }
 
-fn write_settled(holds: bool) {
+fn write_settled(rt: &impl Print, holds: bool) {
     if holds {
-        write(b" planned");
+        write(rt, b" planned");
     } else {
-        write(b" broken");
+        write(rt, b" broken");
     }
 }

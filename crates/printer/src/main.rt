@@ -10,8 +10,8 @@ ghost use Rattle.requests.specs.Promise.{Keeps};
 
 use card::{Reading, read};
 use filter::filter;
-use libc::{STDERR_FILENO, STDIN_FILENO, STDOUT_FILENO};
 use settings::{LIMIT, Settings};
+use std::io::Read;
 
 // How many bytes of a file are held: one more than a file may have, so that a longer one is refused.
 const HELD_BYTES: usize = 4097;
@@ -26,31 +26,42 @@ pub struct Input {
     pub size: usize,
 }
 
-fn main() {
-    let input = read_input();
+fn main(rt: HostRuntime) {
+    let input = read_input(&mut rt.stdin());
     let size = input.size;
     let file = input.bytes;
     let mut text = [0; MAX_LENGTH];
     let length = print(&file[..size], &mut text);
-    write_output(&text[..length]);
+    write_output(&rt, &text[..length]);
 }
 
-// Reads standard input up to its end, or as much as is held.
-fn read_input() -> Input
+// Reads an input up to its end, or as much as is held.
+fn read_input(from: &mut impl Read) -> Input
     ensures { (length result.bytes ≡ held_bytes) × (result.size ≤ held_bytes) }
 {
     let mut bytes = [0; HELD_BYTES];
-    let size = io::read_full(STDIN_FILENO, &mut bytes);
+    let size = read_full(from, &mut bytes);
     Input { bytes, size }
 }
 
+// Reads until the slice is full, the input ends or a read fails, and gives how many bytes it put at the slice's start.
+fn read_full(from: &mut impl Read, out: &mut [u8]) -> usize
+    ensures { result ≤ length out.new }
+{
+    let mut size = 0;
+    while size < out.len() {
+        match from.read(&mut out[size..]) {
+            Ok(0) | Err(_) => break,
+            Ok(n) => size += n,
+        }
+    }
+    size
+}
+
 // Writes to standard output; where that does not take all of it, says so on standard error.
-fn write_output(text: &[u8]) {
-    if !io::write_all(STDOUT_FILENO, text) {
-        io::write_all(
-            STDERR_FILENO,
-            b"printer: standard output did not take the whole answer\n",
-        );
+fn write_output(rt: &(impl Print + Eprint), text: &[u8]) {
+    if rt.write_all(text).is_err() {
+        let _ = rt.eprint("printer: standard output did not take the whole answer\n");
     }
 }
 
