@@ -46,12 +46,7 @@ pub struct WritingNumbers {
     pub length: usize,
 }
 
-#[unsafe(no_mangle)]
-pub extern "C" fn icecoppice_read(
-    file: &[u8],
-    lowest: &mut [i32],
-    highest: &mut [i32],
-) -> ReadingNumbers
+pub fn icecoppice_read(file: &[u8], lowest: &mut [i32], highest: &mut [i32]) -> ReadingNumbers
     ensures { ReadsInNumbers file.now lowest.old highest.old
         result lowest.new highest.new }
 {
@@ -62,8 +57,7 @@ pub extern "C" fn icecoppice_read(
     }
 }
 
-#[unsafe(no_mangle)]
-pub extern "C" fn icecoppice_look_up(file: &[u8], slot: usize) -> FoundNumbers
+pub fn icecoppice_look_up(file: &[u8], slot: usize) -> FoundNumbers
     ensures { result ≡ found_numbers (looking slot file.now) }
 {
     let found = look_up(file, slot);
@@ -81,8 +75,7 @@ pub extern "C" fn icecoppice_look_up(file: &[u8], slot: usize) -> FoundNumbers
     }
 }
 
-#[unsafe(no_mangle)]
-pub extern "C" fn icecoppice_write(
+pub fn icecoppice_write(
     k: i32,
     len: u16,
     h: u16,

@@ -1,5 +1,5 @@
 // The filter, the judge, the paging, the reader, the look-up, the writer and the watch for C, on numbers and slices,
-// under names that begin with `icecoppice_`. include/icecoppice.h declares them.
+// under names that begin with `icecoppice_`. The crate icecoppice_c exports them; include/icecoppice.h declares them.
 #![tactic(auto)]
 
 ghost use Rattle.std.specs.Prelude.{◌≡◌};
@@ -49,8 +49,7 @@ pub struct VerdictNumbers {
     pub covered: u16,
 }
 
-#[unsafe(no_mangle)]
-pub extern "C" fn icecoppice_filter(
+pub fn icecoppice_filter(
     k: i32,
     len: u16,
     h: u16,
@@ -82,8 +81,7 @@ pub extern "C" fn icecoppice_filter(
     answer_numbers(answer)
 }
 
-#[unsafe(no_mangle)]
-pub extern "C" fn icecoppice_judge(
+pub fn icecoppice_judge(
     k: i32,
     len: u16,
     h: u16,

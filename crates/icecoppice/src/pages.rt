@@ -17,8 +17,7 @@ pub struct PageNumbers {
     pub slot: usize,
 }
 
-#[unsafe(no_mangle)]
-pub extern "C" fn icecoppice_next_plan(
+pub fn icecoppice_next_plan(
     k: i32,
     len: u16,
     h: u16,

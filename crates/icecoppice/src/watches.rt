@@ -24,8 +24,7 @@ pub struct StepNumbers {
 }
 
 // Starts a watch: gives its state, or code 23 or 24 and a state of zeros.
-#[unsafe(no_mangle)]
-pub extern "C" fn icecoppice_watch_start(k: i32, len: u16, h: u16) -> StartNumbers
+pub fn icecoppice_watch_start(k: i32, len: u16, h: u16) -> StartNumbers
     ensures { result ≡ start_numbers (starting k len h) }
 {
     let started = Watch::start(k, len, h);
@@ -39,8 +38,7 @@ pub extern "C" fn icecoppice_watch_start(k: i32, len: u16, h: u16) -> StartNumbe
 }
 
 // Takes one load more. A refused step hands the state back as it is.
-#[unsafe(no_mangle)]
-pub extern "C" fn icecoppice_watch_step(watch: Watch, load: i32) -> StepNumbers
+pub fn icecoppice_watch_step(watch: Watch, load: i32) -> StepNumbers
     ensures { StepsInNumbers watch load result }
 {
     let stepped = watch.step(load);
