@@ -5,7 +5,7 @@
 -- What an operation hands back is known from its contract, and from nothing else. What the filter hands back for a
 -- request r is an outcome o with `Keeps r o`: each line below that has `Keeps` speaks of it. What the judge answers
 -- is `judgment`, what the chooser hands back is `Chosen`, what a watch gives is `starting`, `Steps` and `Runs`, what
--- the reader leaves is `reading`, what a look_up gives, also through a view, is `looking`, what the writer leaves is
+-- the reader leaves is `reading`, what a look-up gives, also through a view, is `looking`, what the writer leaves is
 -- `writing`, and what a page gives and leaves is `Turns`.
 use Rattle.std.specs.Prelude.{ℕ, ◌≤◌, ◌<◌, max, true, false, List, [], ◌↔◌, ◌⊎◌, ◌≡◌, ℤ, length}
 use Rattle.std.proofs.Math.Option.{none, some}
@@ -147,13 +147,13 @@ use Rattle.refusals.specs.contracts.Refusal.slot as RefusedSlotContract
 
 -- Demand 1: every input gets a result or one numbered refusal (from the chooser, an empty part), and what is lent is
 -- unaltered after a refusal, a "no plan" or the last page. That every input may be given follows from `Contracts`. The
--- judge, the chooser, the watch, the look_up and the view take values and shared slices, and write nothing; the listing
+-- judge, the chooser, the watch, the look-up and the view take values and shared slices, and write nothing; the listing
 -- refuses nothing.
 pub record Demand1 : Type 0 where
   -- the filter refuses with the first refusal that applies, and in no other situation
   pub filter : (r : Request) (o : Outcome) → Keeps r o → (f : Refusal) →
       (o.answer ≡ refuses f) ↔ (filter_refusal r ≡ some f)
-  -- so do the judge, a watch's start, the reader, the look_up and the writer
+  -- so do the judge, a watch's start, the reader, the look-up and the writer
   pub judge : (s : Settings) (loads : List ℤ) (marks : List ℕ) (f : Refusal) →
       (judgment s loads marks ≡ refuses f) ↔ (judge_refusal s loads marks ≡ some f)
   pub start : (k : ℤ) (len h : ℕ) (f : Refusal) → (starting k len h ≡ refuses f) ↔ (start_refusal len h ≡ some f)
@@ -363,7 +363,7 @@ pub record Established : Type 0 where
   -- a watch's count is the least over all legal marks, and what `step` tests of a state is whether loads lead there
   pub watch : CountIsLeast
   pub reached : (w : Watch) → SFits w32 w.k → Reached w ↔ Tested w
-  -- form 1 read from its end is form 1 encoded from its front; the look_up gives what the reader does
+  -- form 1 read from its end is form 1 encoded from its front; the look-up gives what the reader does
   pub read_back : ReadBack
   pub only_encoded : OnlyEncoded
   pub look_ups : LookUpAgrees

@@ -21,10 +21,10 @@ no_length [] e = refl
 no_length (x ∷ xs) e = absurd (omega arith)
 
 -- what stands at a place of the list is the same whatever else would be given
-pub get_d_any : {A : Type 0} (l : List A) (i : ℕ) (d e : A) → i < length l → get_or l i d ≡ get_or l i e
-get_d_any [] i d e bound = absurd (omega arith)
-get_d_any (x ∷ xs) zero d e bound = refl
-get_d_any (x ∷ xs) (suc i) d e bound = get_d_any xs i d e (omega arith)
+pub get_or_any : {A : Type 0} (l : List A) (i : ℕ) (d e : A) → i < length l → get_or l i d ≡ get_or l i e
+get_or_any [] i d e bound = absurd (omega arith)
+get_or_any (x ∷ xs) zero d e bound = refl
+get_or_any (x ∷ xs) (suc i) d e bound = get_or_any xs i d e (omega arith)
 
 pub map-set : {A B : Type 0} (f : A → B) (l : List A) (i : ℕ) (y : A) → map f (set l i y) ≡ set (map f l) i (f y)
 map-set f [] i y = refl

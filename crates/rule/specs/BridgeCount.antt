@@ -16,6 +16,6 @@ BridgesSinceOpening b marks =
     (front tail : List ℕ) → marks ≡ front ++ 1 ∷ tail → rest tail ≡ tail → b ≡ bridges tail
 
 -- the running count is that number, whatever it was before the marks. Of the count in the judge's own loop this is
--- `count-in-window` in crates/judge/proofs/marks/legal/Proof.antt
+-- `count-in-window` in crates/judge/proofs/marks/legal/Answers.antt
 abbrev pub RunningCount : Type 0
 RunningCount = (b : ℕ) (marks : List ℕ) → BridgesSinceOpening (running b marks) marks

@@ -1,4 +1,4 @@
-// The view, as document 01 calls it: held over a file's bytes, for look_ups by slot number.
+// The view, as document 01 calls it: held over a file's bytes, for look-ups by slot number.
 #![tactic(auto)]
 
 ghost use Rattle.std.specs.Prelude.{◌≡◌};

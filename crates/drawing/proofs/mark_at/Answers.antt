@@ -2,13 +2,13 @@
 use native.Mathlib.Omega.{arith}
 use mathlib.Core.Path.{sym}
 use lib.ListN.{get_or-eq_default}
-use Rattle.facts.proofs.Lists.{get_d_any}
+use Rattle.facts.proofs.Lists.{get_or_any}
 use Rattle.drawing.proofs.mark_at.Goals as goal
 
 pub returns-then-i-front : goal.returns-then-i-front
 returns-then-i-front c =
     let args = c.args in
-    get_d_any args.front.now args.i 0 args.drawn (omega arith)
+    get_or_any args.front.now args.i 0 args.drawn (omega arith)
 
 pub returns : goal.returns
 returns c =
