@@ -78,9 +78,9 @@ module _ (T : ℕ) (shape : Shape) where
   best-mono (c ∷ cs) p q s = (
     cond-mono (allows c 0) (best-mono cs (le_refl 0) (le_refl 0) s).0
         (saturating_suc-le T (using_one-le T s λ i j e. le→⊑ T
-        (closable-mono cs (best-mono cs (le_refl (shape.len - 1)) (le_refl shape.h) e)))),
+        (closable-mono cs (best-mono cs (le_refl _) (le_refl shape.h) e)))),
     saturating_suc-le T (using_one-le T p λ i j e.
-        cond-⊑ T (allows c 2) (le→⊑ T (closable-mono cs (best-mono cs e q s)))
+        cond-⊑ T _ (le→⊑ T (closable-mono cs (best-mono cs e q s)))
         (using_one-le T q λ a b f. le→⊑ T (best-mono cs e f s).1)),
   )
 
