@@ -5,7 +5,7 @@
  *
  * Link with libicecoppice.a (x86-64 Linux); `make install` puts it where pkg-config finds it. The functions are proved
  * for all values of their arguments. Only the test in desk/ checks these declarations against their source,
- * crates/icecoppice/src.
+ * crates/icecoppice_c/src, over crates/icecoppice/src.
  *
  * What a caller owes: each pointer is aligned and points to as many entries as its length says (a length of 0 asks
  * nothing of the pointer), and no slice lent to the filter, the paging, the reader or the writer overlaps another. The
