@@ -5,12 +5,20 @@
 ghost use Rattle.std.specs.Prelude.{[], ◌∷◌};
 ghost use Rattle.buffer.specs.Written.{Written};
 
+pub fn put_bytes(bytes: &[u8], out: &mut [u8], place: usize) -> usize
+    ensures { Written bytes.now place out.old out.new result }
+{
+    let start = place.min(out.len());
+    let fitting = bytes.len().min(out.len() - start);
+    let end = start + fitting;
+    out[start..end].copy_from_slice(&bytes[..fitting]);
+    end
+}
+
+// The buffer and the place stay two parameters, as `Contracts` of demands has put_byte, and put_range and put_trailer of
+// form1; where many functions follow one another, both are a struct (Text of listing).
 pub fn put_byte(b: u8, out: &mut [u8], place: usize) -> usize
     ensures { Written (b ∷ []) place out.old out.new result }
 {
-    if place < out.len() {
-        out[place] = b;
-        return place + 1;
-    }
-    out.len()
+    put_bytes(&[b], out, place)
 }

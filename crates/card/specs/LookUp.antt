@@ -2,21 +2,15 @@
 use Rattle.std.specs.Prelude.{ℕ, ◌<◌, Bool, List, ◌≡◌, leb, ℤ, pos, get_or}
 use Rattle.rule.specs.Ranges.{range}
 use Rattle.rule.specs.declared.Range.{Range}
-use Rattle.refusals.specs.Answer.{Answer, refuses, gives, answer}
+use Rattle.refusals.specs.Answer.{Answer, gives, answer}
 use Rattle.refusals.specs.Table.{row}
 use Rattle.refusals.specs.declared.Refusal.TheVariants.{Slot}
 use Rattle.form1.specs.Form1.{slots, range_of, refusal}
 use Rattle.card.specs.Reading.{Header, reading}
-use Rattle.card.specs.declared.Found.{Found}
-use Rattle.card.specs.declared.Found.TheVariants.{Refused, Record}
 
 -- 19: the slot number is not below n
 unfoldable pub no_slot : (slot : ℕ) → List ℕ → Bool
 no_slot slot file = leb (slots file) slot
-
-abbrev pub meaning : Found → Answer Range
-meaning (Refused r) = refuses r
-meaning (Record found) = gives found
 
 -- what a look-up gives; it depends on nothing but the bytes and the slot number
 unfoldable pub looking : (slot : ℕ) → List ℕ → Answer Range

@@ -3,23 +3,13 @@ use Rattle.std.specs.Prelude.{ℕ, Bool, ◌||◌, List, ◌++◌, ltb, ℤ, len
 use Rattle.refusals.specs.Answer.{Answer, refuses, gives, answer}
 use Rattle.refusals.specs.Table.{row}
 use Rattle.refusals.specs.declared.Refusal.TheVariants.{Lent}
-use Rattle.settings.specs.declared.Settings.{Settings}
 use Rattle.form1.specs.Form1.{slots, settings, range_of, tabulate, refusal}
-use Rattle.card.specs.declared.Reading.{Reading}
-use Rattle.card.specs.declared.Reading.TheVariants.{Refused, Taken}
+-- what the reader hands back besides the loads: settings and n
+pub use Rattle.card.specs.declared.Header.{Header}
 
 -- 17: a lent load slice is shorter than n
 unfoldable pub lent_too_short : (lowest highest : List ℤ) → List ℕ → Bool
 lent_too_short los his file = ltb (length los) (slots file) || ltb (length his) (slots file)
-
--- what the reader hands back besides the loads
-pub record Header : Type 0 where
-  pub settings : Settings
-  pub n : ℕ
-
-abbrev pub meaning : Reading → Answer Header
-meaning (Refused r) = refuses r
-meaning (Taken s n) = gives (record { settings = s; n = n })
 
 -- all that comes back: the answer, and what both load slices hold then
 pub record ReaderOutcome : Type 0 where
@@ -27,8 +17,8 @@ pub record ReaderOutcome : Type 0 where
   pub lowest : List ℤ
   pub highest : List ℤ
 
-abbrev pub outcome_of : Reading → (lowest highest : List ℤ) → ReaderOutcome
-outcome_of r los his = record { answer = meaning r; lowest = los; highest = his }
+abbrev pub outcome_of : Answer Header → (lowest highest : List ℤ) → ReaderOutcome
+outcome_of r los his = record { answer = r; lowest = los; highest = his }
 
 -- the first n places hold the loads of the records, and no later place is altered; on a refusal no place is altered
 abbrev pub filled : Answer Header → (ℕ → ℤ) → List ℤ → List ℤ

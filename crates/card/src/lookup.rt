@@ -1,22 +1,18 @@
 // One record, by its slot number.
 ghost use Rattle.std.specs.Prelude.{◌≡◌};
-ghost use Rattle.card.specs.LookUp.{meaning, looking};
+ghost use Rattle.card.specs.LookUp.{looking};
 
-use crate::Found;
-use form1::{Opened, RECORD, open, range_at};
+use form1::{RECORD, open, range_at};
 use refusals::Refusal;
+use rule::Range;
 
 // Gives the first refusal that applies, or the load range of the slot.
-pub fn look_up(file: &[u8], slot: usize) -> Found
-    ensures { meaning result ≡ looking slot file.now }
+pub fn look_up(file: &[u8], slot: usize) -> Result<Range, Refusal>
+    ensures { result ≡ looking slot file.now }
 {
-    match open(file) {
-        Opened::Refused(refusal) => Found::Refused(refusal),
-        Opened::Whole(contents) => {
-            if contents.n <= slot {
-                return Found::Refused(Refusal::Slot);
-            }
-            Found::Record(range_at(file, contents.start + RECORD * slot))
-        }
+    let contents = open(file)?;
+    if contents.n <= slot {
+        return Err(Refusal::Slot);
     }
+    Ok(range_at(file, contents.start + RECORD * slot))
 }

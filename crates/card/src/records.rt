@@ -13,13 +13,9 @@ pub(crate) fn fill(file: &[u8], start: usize, n: usize, lowest: &mut [i32], high
     ensures highest_after { highest.new
         ≡ tabulate n (λ slot. (range_of slot file.now).highest) ++ drop n highest.old }
 {
-    let mut slot = 0;
-    while slot < n {
+    for slot in 0..n {
         let range = range_at(file, start + RECORD * slot);
-        let low = range.lowest;
-        let high = range.highest;
-        lowest[slot] = low;
-        highest[slot] = high;
-        slot += 1;
+        lowest[slot] = range.lowest;
+        highest[slot] = range.highest;
     }
 }

@@ -1,87 +1,67 @@
 // What a form 1 file holds.
-use crate::filtered::request;
-use crate::numbers::{MANY, bytes, second};
-use crate::show::{write, write_count, write_line_feed, write_number, write_refusal, write_signed};
-use crate::text::HEXADECIMAL;
-use crate::written::again;
-use card::{Found, Reading};
+use crate::fields::{MANY, bytes, field};
+use crate::filtered::ask_filter;
+use crate::show::{say, write_refusal};
+use crate::text::Base;
+use crate::written::store_again;
+use arrayvec::ArrayVec;
+use card::Header;
 use rule::Shape;
 use settings::{CountRange, PLACES, Settings};
 
 // The fields of `read`: no numbers; the bytes of a file, in hexadecimal.
 pub fn read(rt: &impl Print, line: &[u8]) {
-    let mut all = [0u8; MANY];
-    let n = bytes(line, second(line), HEXADECIMAL, &mut all);
-    contents(rt, &all[..n]);
+    write_contents(rt, &bytes::<MANY>(field(line, 1), Base::Hexadecimal));
 }
 
 // Writes what a view gives for each slot, up to the first refusal, and what the reader gives.
-pub fn contents(rt: &impl Print, bytes: &[u8]) {
-    records(rt, bytes);
-    file(rt, bytes);
+pub fn write_contents(rt: &impl Print, bytes: &[u8]) {
+    write_slots(rt, bytes);
+    write_reading(rt, bytes);
 }
 
-fn records(rt: &impl Print, file: &[u8]) {
-    let mut slot = 0;
-    while slot < PLACES {
-        if !viewed(rt, file, slot) {
-            return;
-        }
-        slot += 1;
-    }
-}
-
-fn viewed(rt: &impl Print, file: &[u8], slot: usize) -> bool {
-    write_number(rt, b"slot ", slot as u64);
-    let found = view::viewed(file, slot);
-    match found {
-        Found::Refused(refusal) => {
-            write(rt, b" ");
-            write_refusal(rt, refusal);
-            write_line_feed(rt);
-            false
-        }
-        Found::Record(range) => {
-            write_signed(rt, b" ", range.lowest);
-            write_signed(rt, b"..", range.highest);
-            write_line_feed(rt);
-            true
+fn write_slots(rt: &impl Print, file: &[u8]) {
+    for slot in 0..PLACES {
+        say(rt, format_args!("slot {slot} "));
+        match view::viewed(file, slot) {
+            Ok(range) => say(rt, format_args!("{}..{}\n", range.lowest, range.highest)),
+            Err(refusal) => return write_refusal(rt, refusal),
         }
     }
 }
 
 // Writes what the reader gives, and what the writer and the filter answer to it.
-fn file(rt: &impl Print, file: &[u8]) {
-    let mut lowest = [0i32; PLACES];
-    let mut highest = [0i32; PLACES];
+fn write_reading(rt: &impl Print, file: &[u8]) {
+    let mut lowest = ArrayVec::from([0i32; PLACES]);
+    let mut highest = ArrayVec::from([0i32; PLACES]);
     match card::read(file, &mut lowest, &mut highest) {
-        Reading::Refused(refusal) => {
-            write_refusal(rt, refusal);
-            write_line_feed(rt);
-        }
-        Reading::Taken { settings, n } => {
+        Ok(Header { settings, n }) => {
+            lowest.truncate(n);
+            highest.truncate(n);
             write_settings(rt, settings);
-            again(rt, settings, n, &lowest, &highest, file);
-            request(rt, settings, n, n, &mut lowest, &mut highest);
+            store_again(rt, settings, &lowest, &highest, file);
+            ask_filter(rt, settings, &mut lowest, &mut highest);
         }
+        Err(refusal) => write_refusal(rt, refusal),
     }
 }
 
+// No Display, which only the crate of a type can give it, and these types are of other crates.
 fn write_settings(rt: &impl Print, settings: Settings) {
-    write_signed(rt, b"k ", settings.k);
-    write_shape(rt, settings.shape);
-    write_range(rt, b" windows ", settings.windows);
-    write_range(rt, b" covered ", settings.covered);
-    write_line_feed(rt);
+    let Settings {
+        k,
+        shape,
+        windows,
+        covered,
+    } = settings;
+    let Shape { len, h, settle } = shape;
+    say(rt, format_args!("k {k} len {len} h {h} settle {settle}"));
+    write_range(rt, " windows", windows);
+    write_range(rt, " covered", covered);
+    say(rt, "\n");
 }
 
-fn write_shape(rt: &impl Print, shape: Shape) {
-    write_count(rt, b" len ", shape.len);
-    write_count(rt, b" h ", shape.h);
-    write_count(rt, b" settle ", shape.settle);
-}
-
-fn write_range(rt: &impl Print, word: &[u8], range: CountRange) {
-    write_count(rt, word, range.least);
-    write_count(rt, b"..", range.most);
+fn write_range(rt: &impl Print, word: &str, range: CountRange) {
+    let CountRange { least, most } = range;
+    say(rt, format_args!("{word} {least}..{most}"));
 }

@@ -3,22 +3,20 @@
 // is, and below it what the operation gave.
 #![tactic(auto)]
 
-ghost use Rattle.std.specs.Prelude.{◌≤◌, length};
-
 use crate::cards::read;
 use crate::filtered::filtered;
 use crate::judged::{chosen, judged};
 use crate::paged::paged;
 use crate::show::write;
-use crate::text::after_byte;
 use crate::watched::{stepped, watched};
 use crate::written::made;
-use std::io::Read;
+use arrayvec::ArrayVec;
+use std::io::{self, Read};
 
 mod cards;
+mod fields;
 mod filtered;
 mod judged;
-mod numbers;
 mod paged;
 mod show;
 mod text;
@@ -28,53 +26,29 @@ mod written;
 // The most bytes of standard input that are read.
 const HELD_BYTES: usize = 65536;
 
+// A read that fails counts as the end of the input.
 fn main(rt: HostRuntime) {
-    let mut buffer = [0; HELD_BYTES];
-    let size = read_full(&mut rt.stdin(), &mut buffer);
-    each_line(&rt, &buffer[..size]);
-}
-
-// Reads until the slice is full, the input ends or a read fails, and gives how many bytes it put at the slice's start.
-fn read_full(from: &mut impl Read, out: &mut [u8]) -> usize
-    ensures { result ≤ length out.new }
-{
-    let mut size = 0;
-    while size < out.len() {
-        match from.read(&mut out[size..]) {
-            Ok(0) | Err(_) => break,
-            Ok(n) => size += n,
-        }
-    }
-    size
-}
-
-fn each_line(rt: &impl Print, text: &[u8]) {
-    let mut start = 0;
-    while start < text.len() {
-        let end = after_byte(text, start, b'\n');
-        line(rt, &text[start..end]);
-        start = end;
+    let mut text = ArrayVec::<u8, HELD_BYTES>::new();
+    let _ = io::copy(&mut rt.stdin().take(HELD_BYTES as u64), &mut text);
+    for line in text.split_inclusive(|byte| *byte == b'\n') {
+        write(&rt, line);
+        operation(&rt, line);
     }
 }
 
-fn line(rt: &impl Print, line: &[u8]) {
-    write(rt, line);
-    if line.len() > 0 {
-        operation(rt, line[0], line);
-    }
-}
-
-// An operation is known by its first letter. A line that begins otherwise, such as a comment, is only written.
-fn operation(rt: &impl Print, letter: u8, line: &[u8]) {
-    match letter {
-        b'f' => filtered(rt, line),
-        b'j' => judged(rt, line),
-        b'c' => chosen(rt, line),
-        b'p' => paged(rt, line),
-        b'w' => watched(rt, line),
-        b's' => stepped(rt, line),
-        b'r' => read(rt, line),
-        b'm' => made(rt, line),
+// An operation is known by its first letter: a list of letters and closures would be no plainer than this match. A line
+// that begins otherwise, such as a comment, is only written. Each function is the participle of its operation, since the
+// verb itself names the function of another crate that it asks.
+fn operation(rt: &impl Print, line: &[u8]) {
+    match line.first() {
+        Some(b'f') => filtered(rt, line),
+        Some(b'j') => judged(rt, line),
+        Some(b'c') => chosen(rt, line),
+        Some(b'p') => paged(rt, line),
+        Some(b'w') => watched(rt, line),
+        Some(b's') => stepped(rt, line),
+        Some(b'r') => read(rt, line),
+        Some(b'm') => made(rt, line),
         _ => {}
     }
 }

@@ -1,1 +1,1 @@
-mod FirstCrossedLoop
+mod FirstCrossed

@@ -13,7 +13,7 @@ use Rattle.refusals.specs.Answer.{refuses, gives}
 use Rattle.settings.proofs.Accepted.{differs_false, accepted-iff}
 use Rattle.settings.specs.declared.Settings.{Settings}
 use Rattle.judge.proofs.Allowed.{yes→allowed}
-use Rattle.judge.specs.Judgment.{Judgment, says, judgment}
+use Rattle.judge.specs.Judgment.{Judgment, yes, no, judgment}
 use Rattle.chooser.specs.Choice.{fewer, choice, EmptyPart, HandsBack, Chosen, Yes, No, Refuses, Chooses}
 use Rattle.chooser.specs.declared.Choice.{Choice}
 use Rattle.chooser.specs.declared.Choice.TheVariants.{First, Second}
@@ -30,8 +30,8 @@ one_of w₁ c₁ w₂ c₂ = by (ltb w₂ w₁) (ltb w₁ w₂) (ltb c₂ c₁)
     by false false false = inl refl
 
 abbrev code : Judgment → ℕ
-code (gives (says false w c)) = 0
-code (gives (says true w c)) = 1
+code (gives no) = 0
+code (gives (yes a)) = 1
 code (refuses n) = 2
 
 module _ (s : Settings) (loads : List ℤ) (a b r : Bor (List ℕ)) where
@@ -75,16 +75,15 @@ module _ (s : Settings) (loads : List ℤ) (a b r : Bor (List ℕ)) where
   either x (inr is) y z e = second (subst (λ x. HandsBack x a b r) is e) z
 
   by : (one two : Judgment) → Says a one → Says b two → HandsBack (choice one two) a b r → Chooses s loads a b r
-  by (gives (says true w c)) (gives (says true v d)) i j e =
-      plan-chosen (either (fewer w c v d) (one_of w c v d) (w, c, i) (v, d, j) e)
+  by (gives (yes m)) (gives (yes n)) i j e =
+      plan-chosen (either _ (one_of m.windows m.covered n.windows n.covered) (m.windows, m.covered, i) (n.windows, n.covered, j) e)
       (no-cause _ _ i j (omega arith) (omega arith) (omega arith))
-  by (gives (says true w c)) (gives (says false v d)) i j e =
-      plan-chosen (first e (w, c, i)) (no-cause _ _ i j (omega arith) (omega arith) (omega arith))
-  by (gives (says false w c)) (gives (says true v d)) i j e =
-      plan-chosen (second e (v, d, j)) (no-cause _ _ i j (omega arith) (omega arith) (omega arith))
-  by (gives (says false w c)) (gives (says false v d)) i j e = none-chosen (inr (inr ((w, c, i), (v, d, j)))) e
-  by (gives (says true w c)) (refuses n) i j e = none-chosen (inr (inl (n, j))) e
-  by (gives (says false w c)) (refuses n) i j e = none-chosen (inr (inl (n, j))) e
+  by (gives (yes m)) (gives no) i j e =
+      plan-chosen (first e (m.windows, m.covered, i)) (no-cause _ _ i j (omega arith) (omega arith) (omega arith))
+  by (gives no) (gives (yes n)) i j e =
+      plan-chosen (second e (n.windows, n.covered, j)) (no-cause _ _ i j (omega arith) (omega arith) (omega arith))
+  by (gives no) (gives no) i j e = none-chosen (inr (inr ((0, 0, i), (0, 0, j)))) e
+  by (gives m) (refuses n) i j e = none-chosen (inr (inl (n, j))) e
   by (refuses n) two i j e = none-chosen (inl (n, i)) e
 
   pub chosen→chooses : Chosen s loads a b r → Chooses s loads a b r

@@ -6,7 +6,7 @@ use Rattle.chooser.specs.declared.Choice.TheVariants.{First, Second, Neither}
 use Rattle.refusals.specs.Answer.{refuses, gives}
 use Rattle.refusals.specs.declared.Refusal.{Refusal}
 use Rattle.settings.specs.declared.Settings.{Settings}
-use Rattle.judge.specs.Judgment.{YesOrNo, says, Judgment, judgment}
+use Rattle.judge.specs.Judgment.{YesOrNo, yes, no, says, Judgment, judgment}
 
 -- fewer windows, then fewer covered slots, then the first
 unfoldable pub fewer : (w₁ c₁ w₂ c₂ : ℕ) → Choice
@@ -15,10 +15,10 @@ fewer w₁ c₁ w₂ c₂ = cond (ltb w₂ w₁) Second (cond (ltb w₁ w₂) Fi
 -- one that the judge says yes to beats one that it says no to; where it says yes to neither, or refuses
 -- one, neither is chosen
 abbrev better : (one two : YesOrNo) → Choice
-better (says true w₁ c₁) (says true w₂ c₂) = fewer w₁ c₁ w₂ c₂
-better (says true w₁ c₁) (says false w₂ c₂) = First
-better (says false w₁ c₁) (says true w₂ c₂) = Second
-better (says false w₁ c₁) (says false w₂ c₂) = Neither
+better (yes a) (yes b) = fewer a.windows a.covered b.windows b.covered
+better (yes a) no = First
+better no (yes b) = Second
+better no no = Neither
 
 abbrev pub choice : (one two : Judgment) → Choice
 choice (gives one) (gives two) = better one two

@@ -3,12 +3,13 @@
 
 ghost use Rattle.std.specs.Prelude.{◌≡◌};
 ghost use Rattle.chooser.specs.Choice.{Chosen, choice, fewer as Choice·fewer};
-ghost use Rattle.judge.specs.Judgment.{meaning};
 
-use judge::{Verdict, judge};
+use judge::{Counts, judge};
+use refusals::Refusal;
 use settings::Settings;
 
-// Which of two plans is chosen, if any.
+// Which of two plans is chosen, if any. No Option: `choice`, `HandsBack` and the theorem `Chooses` (specs/Choice.antt)
+// speak of these three.
 #[derive(Clone, Copy)]
 pub enum Choice {
     First,
@@ -32,45 +33,21 @@ pub fn choose<'a>(settings: Settings, loads: &[i32], first: &'a [u8], second: &'
 }
 
 // A plan that the judge says yes to is better than one that it says no to; of two that it says yes to, `fewer` decides.
-fn prefer(one: Verdict, two: Verdict) -> Choice
-    ensures { result ≡ choice (meaning one) (meaning two) }
+fn prefer(one: Result<Option<Counts>, Refusal>, two: Result<Option<Counts>, Refusal>) -> Choice
+    ensures { result ≡ choice one two }
 {
-    match one {
-        Verdict::Yes {
-            windows: w1,
-            covered: c1,
-        } => match two {
-            Verdict::Yes {
-                windows: w2,
-                covered: c2,
-            } => fewer(w1, c1, w2, c2),
-            Verdict::No => Choice::First,
-            Verdict::Refused(_) => Choice::Neither,
-        },
-        Verdict::No => match two {
-            Verdict::Yes {
-                windows: _,
-                covered: _,
-            } => Choice::Second,
-            Verdict::No => Choice::Neither,
-            Verdict::Refused(_) => Choice::Neither,
-        },
-        Verdict::Refused(_) => Choice::Neither,
+    match (one, two) {
+        (Ok(Some(a)), Ok(Some(b))) => fewer(a, b),
+        (Ok(Some(_)), Ok(None)) => Choice::First,
+        (Ok(None), Ok(Some(_))) => Choice::Second,
+        _ => Choice::Neither,
     }
 }
 
 // The plan with fewer windows, then fewer covered slots, then the first.
-fn fewer(w1: u16, c1: u16, w2: u16, c2: u16) -> Choice
-    ensures { result ≡ Choice·fewer w1 c1 w2 c2 }
+#[tactic(auto, unfolding(crate::specs::Choice::fewer))]
+fn fewer(a: Counts, b: Counts) -> Choice
+    ensures { result ≡ Choice·fewer a.windows a.covered b.windows b.covered }
 {
-    if w2 < w1 {
-        return Choice::Second;
-    }
-    if w1 < w2 {
-        return Choice::First;
-    }
-    if c2 < c1 {
-        return Choice::Second;
-    }
-    Choice::First
+    if b < a { Choice::Second } else { Choice::First }
 }

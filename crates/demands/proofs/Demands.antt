@@ -79,6 +79,7 @@ use Rattle.icecoppice.proofs.icecoppice_look_up as CLookUp
 use Rattle.icecoppice.proofs.icecoppice_write as CWrite
 use Rattle.icecoppice.proofs.icecoppice_watch_start as CStart
 use Rattle.icecoppice.proofs.icecoppice_watch_step as CStep
+use Rattle.buffer.proofs.put_bytes as PutBytes
 use Rattle.buffer.proofs.put_byte as PutByte
 use Rattle.rule.proofs.over as Over
 use Rattle.settings.proofs.check as Check
@@ -90,6 +91,11 @@ use Rattle.checks.proofs.check_request as CheckRequest
 use Rattle.rule.proofs.class_of as ClassOf
 use Rattle.least.proofs.least_counts as LeastCountsOf
 use Rattle.least.proofs.row_after as RowAfter
+use Rattle.marks.proofs.close_window as CloseWindow
+use Rattle.marks.proofs.next_mark as NextMark
+use Rattle.marks.proofs.left_of as LeftOf
+use Rattle.marks.proofs.lacking as Lacking
+use Rattle.marks.proofs.unless_lacking as UnlessLacking
 use Rattle.drawing.proofs.classify as Classify
 use Rattle.drawing.proofs.draw as Draw
 use Rattle.drawing.proofs.complete as Complete
@@ -285,6 +291,7 @@ contracts =
       write_for_c = record { meets = CWrite.Met.met; total = λ M 𝓤 𝓛 mem run κs a. (tt, λ g. refl) };
       start_for_c = record { meets = CStart.Met.met; total = λ M 𝓤 𝓛 mem run κs a. (tt, λ g. refl) };
       step_for_c = record { meets = CStep.Met.met; total = λ M 𝓤 𝓛 mem run κs a. (tt, λ g. refl) };
+      put_bytes = record { meets = PutBytes.Met.met; total = λ M 𝓤 𝓛 mem run κs a. (tt, λ g. refl) };
       put_byte = record { meets = PutByte.Met.met; total = λ M 𝓤 𝓛 mem run κs a. (tt, λ g. refl) };
       over = record { meets = Over.Met.met; total = λ M 𝓤 𝓛 mem run κs a. (tt, λ g. refl) };
       check = record { meets = Check.Met.met; total = λ M 𝓤 𝓛 mem run κs a. (tt, λ g. refl) };
@@ -296,6 +303,11 @@ contracts =
       class_of = record { meets = ClassOf.Met.met; total = λ M 𝓤 𝓛 mem run κs a. (tt, λ g. refl) };
       least_counts = record { meets = LeastCountsOf.Met.met; total = λ M 𝓤 𝓛 mem run κs a. (tt, λ g. refl) };
       row_after = record { meets = RowAfter.Met.met; total = λ M 𝓤 𝓛 mem run κs a. (tt, λ g. refl) };
+      close_window = record { meets = CloseWindow.Met.met; total = λ M 𝓤 𝓛 mem run κs a. (tt, λ g. refl) };
+      next_mark = record { meets = NextMark.Met.met; total = λ M 𝓤 𝓛 mem run κs a. (tt, λ g. refl) };
+      left_of = record { meets = LeftOf.Met.met; total = λ M 𝓤 𝓛 mem run κs a. (tt, λ g. refl) };
+      lacking = record { meets = Lacking.Met.met; total = λ M 𝓤 𝓛 mem run κs a. (tt, λ g. refl) };
+      unless_lacking = record { meets = UnlessLacking.Met.met; total = λ M 𝓤 𝓛 mem run κs a. (tt, λ g. refl) };
       classify = record { meets = Classify.Met.met; total = λ M 𝓤 𝓛 mem run κs a. (tt, λ g. refl) };
       draw = record { meets = Draw.Met.met; total = λ M 𝓤 𝓛 mem run κs a. (tt, λ g. refl) };
       complete = record { meets = Complete.Met.met; total = λ M 𝓤 𝓛 mem run κs a. (tt, λ g. refl) };

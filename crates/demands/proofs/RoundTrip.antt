@@ -19,7 +19,8 @@ use Rattle.requests.proofs.ChosenIn.{paired-length, paired_at}
 use Rattle.requests.proofs.Formed.{passes→accepted}
 use Rattle.requests.specs.Request.{at, paired}
 use Rattle.card.proofs.ReaderAnswers.{takes, taken, records-put}
-use Rattle.card.specs.Reading.{Header, read_answer, reading}
+use Rattle.card.specs.Reading.{read_answer, reading}
+use Rattle.card.specs.declared.Header.{Header}
 use Rattle.writer.proofs.WriterAnswers.{file-length, stored→buffer, stored→file, stores_accepted}
 use Rattle.writer.specs.Writing.{file_of}
 use Rattle.demands.specs.RoundTrip.{TakenAs, ReadsBack, WritesBack, Shortest}

@@ -5,7 +5,7 @@ use mathlib.Core.List.{List}
 use lib.IntN.{ℤ}
 use lib.ListN.{length}
 use Rattle.rule.proofs.LegalFrom.{legal-length}
-use Rattle.rule.proofs.Tally.{covered_le}
+use Rattle.rule.proofs.Counts.{covered_le}
 use Rattle.rule.specs.Rule.{carries, shaped, covered}
 use Rattle.published.proofs.Theorems.{theorems}
 use Rattle.published.specs.Published.{Sequence, SpringyFocus, sequences_of}

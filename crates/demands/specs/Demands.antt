@@ -35,8 +35,9 @@ use Rattle.requests.specs.Request.{Request, slots, paired, ranges, at, filter_re
 use Rattle.requests.specs.declared.PlanCounts.{PlanCounts}
 use Rattle.requests.specs.Solution.{sentinel, completed, drawn_plan, FitsAt, CountsAreLeast, solution}
 use Rattle.paging.specs.Pages.{Enumerates}
-use Rattle.paging.specs.Paging.{Call, RefusedWith, NextPlan, Result, no_further, Turns}
-use Rattle.watch.specs.Promise.{meaning, Steps, Runs, RunsFromReached, CountIsLeast, CaseL}
+use Rattle.paging.specs.Paging.{Call, RefusedWith, NextPlan, Result, Turns}
+use Rattle.paging.specs.declared.Page.TheVariants.{End as no_further}
+use Rattle.watch.specs.Promise.{Steps, Runs, RunsFromReached, CountIsLeast, CaseL}
 use Rattle.watch.specs.Start.{starting}
 use Rattle.watch.specs.States.{start_refusal, LeadsTo, Reached}
 use Rattle.watch.specs.Tested.{Tested}
@@ -44,7 +45,8 @@ use Rattle.watch.specs.declared.Watch.{Watch}
 use Rattle.watch.specs.declared.step.Stepped.{Stepped}
 use Rattle.form1.specs.Form1.{refusal as File·refusal}
 use Rattle.form1.specs.Layout.{ReadBack, OnlyEncoded}
-use Rattle.card.specs.Reading.{Header, lent_too_short, reading}
+use Rattle.card.specs.Reading.{lent_too_short, reading}
+use Rattle.card.specs.declared.Header.{Header}
 use Rattle.card.specs.LookUp.{no_slot, looking, LookUpAgrees}
 use Rattle.writer.specs.Writing.{writer_refusal, writing, StoresAccepted}
 use Rattle.listing.specs.Cases.{Cases as Listing-as-Cases}
@@ -104,6 +106,8 @@ use Rattle.icecoppice.proofs.icecoppice_watch_start as CStart
 use Rattle.icecoppice.specs.contracts.icecoppice_watch_start as CStartContract
 use Rattle.icecoppice.proofs.icecoppice_watch_step as CStep
 use Rattle.icecoppice.specs.contracts.icecoppice_watch_step as CStepContract
+use Rattle.buffer.proofs.put_bytes as PutBytes
+use Rattle.buffer.specs.contracts.put_bytes as PutBytesContract
 use Rattle.buffer.proofs.put_byte as PutByte
 use Rattle.buffer.specs.contracts.put_byte as PutByteContract
 use Rattle.rule.proofs.over as Over
@@ -126,6 +130,16 @@ use Rattle.least.proofs.least_counts as LeastCountsOf
 use Rattle.least.specs.contracts.least_counts as LeastCountsOfContract
 use Rattle.least.proofs.row_after as RowAfter
 use Rattle.least.specs.contracts.row_after as RowAfterContract
+use Rattle.marks.proofs.close_window as CloseWindow
+use Rattle.marks.specs.contracts.close_window as CloseWindowContract
+use Rattle.marks.proofs.next_mark as NextMark
+use Rattle.marks.specs.contracts.next_mark as NextMarkContract
+use Rattle.marks.proofs.left_of as LeftOf
+use Rattle.marks.specs.contracts.left_of as LeftOfContract
+use Rattle.marks.proofs.lacking as Lacking
+use Rattle.marks.specs.contracts.lacking as LackingContract
+use Rattle.marks.proofs.unless_lacking as UnlessLacking
+use Rattle.marks.specs.contracts.unless_lacking as UnlessLackingContract
 use Rattle.drawing.proofs.classify as Classify
 use Rattle.drawing.specs.contracts.classify as ClassifyContract
 use Rattle.drawing.proofs.draw as Draw
@@ -179,7 +193,7 @@ pub record Demand1 : Type 0 where
   -- judge refuses one of the two or says no to both
   pub chooser : (s : Settings) (loads : List ℤ) (a b r : Bor (List ℕ)) → Chosen s loads a b r → Chooses s loads a b r
   -- a refusal of a step is 32 or 33, each exactly when `Steps` says, and keeps the state
-  pub step : (w : Watch) (load : ℤ) (r : Stepped) → Steps w load r → (f : Refusal) → meaning r.answer ≡ refuses f →
+  pub step : (w : Watch) (load : ℤ) (r : Stepped) → Steps w load r → (f : Refusal) → r.answer ≡ refuses f →
       ((f ≡ Unreached) ⊎ (f ≡ Full)) × (r.watch ≡ w)
   -- a run is refused by one of its steps; from a state that loads lead to, it is refused with 33, exactly when loads
   -- are left after the limit is reached
@@ -409,9 +423,10 @@ pub record Contracts : Type 2 where
   pub write_for_c : Operation CWrite.Statement.statement CWriteContract.signature (λ M 𝓤. CWriteContract.spec)
   pub start_for_c : Operation CStart.Statement.statement CStartContract.signature (λ M 𝓤. CStartContract.spec)
   pub step_for_c : Operation CStep.Statement.statement CStepContract.signature (λ M 𝓤. CStepContract.spec)
-  -- what these share: a byte put into a buffer, the test of a load, checks, a slot's class and least counts, the
-  -- classes of all slots and what is drawn for them, a file's trailer and records, read and put, and the number and
-  -- slot of a refusal
+  -- what these share: bytes put into a buffer, the test of a load, checks, a slot's class and least counts, the next
+  -- mark of a plan and the slots that a window lacks, the classes of all slots and what is drawn for them, a file's
+  -- trailer and records, read and put, and the number and slot of a refusal
+  pub put_bytes : Operation PutBytes.Statement.statement PutBytesContract.signature (λ M 𝓤. PutBytesContract.spec)
   pub put_byte : Operation PutByte.Statement.statement PutByteContract.signature (λ M 𝓤. PutByteContract.spec)
   pub over : Operation Over.Statement.statement OverContract.signature (λ M 𝓤. OverContract.spec)
   pub check : Operation Check.Statement.statement CheckContract.signature (λ M 𝓤. CheckContract.spec)
@@ -423,6 +438,11 @@ pub record Contracts : Type 2 where
   pub class_of : Operation ClassOf.Statement.statement ClassOfContract.signature (λ M 𝓤. ClassOfContract.spec)
   pub least_counts : Operation LeastCountsOf.Statement.statement LeastCountsOfContract.signature (λ M 𝓤. LeastCountsOfContract.spec)
   pub row_after : Operation RowAfter.Statement.statement RowAfterContract.signature (λ M 𝓤. RowAfterContract.spec)
+  pub close_window : Operation CloseWindow.Statement.statement CloseWindowContract.signature (λ M 𝓤. CloseWindowContract.spec)
+  pub next_mark : Operation NextMark.Statement.statement NextMarkContract.signature (λ M 𝓤. NextMarkContract.spec)
+  pub left_of : Operation LeftOf.Statement.statement LeftOfContract.signature (λ M 𝓤. LeftOfContract.spec)
+  pub lacking : Operation Lacking.Statement.statement LackingContract.signature (λ M 𝓤. LackingContract.spec)
+  pub unless_lacking : Operation UnlessLacking.Statement.statement UnlessLackingContract.signature (λ M 𝓤. UnlessLackingContract.spec)
   pub classify : Operation Classify.Statement.statement ClassifyContract.signature (λ M 𝓤. ClassifyContract.spec)
   pub draw : Operation Draw.Statement.statement DrawContract.signature (λ M 𝓤. DrawContract.spec)
   pub complete : Operation Complete.Statement.statement CompleteContract.signature (λ M 𝓤. CompleteContract.spec)

@@ -19,7 +19,7 @@ use Rattle.requests.specs.Drawing.{closed_mark, next_mark, left_of, drawn_from}
 use Rattle.requests.specs.Solution.{sentinel, completed}
 use Rattle.rule.specs.ClassCodes.{decode, decode_all}
 use Rattle.rule.specs.Ranges.{Class}
-use Rattle.settings.specs.Refusals.{limit, places}
+use Rattle.settings.specs.Refusals.{limit}
 use Rattle.settings.specs.declared.Settings.{Settings}
 
 module _ (s : Settings) (classes front before : List ℕ) where
@@ -29,17 +29,15 @@ module _ (s : Settings) (classes front before : List ℕ) where
   -- to draw the slots from i on is to draw all of them
   pub record LeftToDraw (marks : List ℕ) (mark w c : ℕ) (row : List ℕ) (i : ℕ) : Type 0 where
     pub as_long : length marks ≡ length before
-    pub wide : length row ≡ places
     pub by_row : (mark ≡ 0 → ⊥) → RowAfter s cs (w + 1) row
     pub whole : sets marks i (drawn_from sentinel s.shape (drop i cs) (drop i front) mark w c)
         ≡ sets before 0 (completed s cs front)
 
-  pub complete-start : (row : List ℕ) → length row ≡ places →
-      LeftToDraw before 0 s.windows.most s.covered.most row 0
-  complete-start row wide = record { as_long = refl; wide = wide; by_row = λ covered. absurd (covered refl); whole = refl }
+  pub complete-start : (row : List ℕ) → LeftToDraw before 0 s.windows.most s.covered.most row 0
+  complete-start row = record { as_long = refl; by_row = λ covered. absurd (covered refl); whole = refl }
 
   module _ (marks : List ℕ) (mark w c : ℕ) (row : List ℕ) (i n : ℕ)
-      (is : n ≡ min limit (min (length classes) (length before))) (left : LeftToDraw marks mark w c row i) where
+      (is : n ≡ min (min (length classes) (length before)) limit) (left : LeftToDraw marks mark w c row i) where
     slots : length cs ≡ min limit (length classes)
     slots = length-map (take limit classes) decode ∙ length-take limit classes
 
@@ -90,14 +88,12 @@ module _ (s : Settings) (classes front before : List ℕ) where
         drawn-next = rw (next-slot, next-mark, ← drop-drop 1 i front)
 
         pub complete-step : {w' c' : ℕ} {row' : List ℕ} → w' ≡ left_of w (eqb next 1) → c' ≡ left_of c (not (eqb next 0)) →
-            length row' ≡ places →
             ((next ≡ 0 → ⊥) → ((mark ≡ 0 → ⊥) → (next ≡ 1 → ⊥) → RowAfter s cs (w' + 1) row) →
             RowAfter s cs (w' + 1) row') →
             LeftToDraw (set marks i next) next w' c' row' (i + 1)
-        complete-step few short wide by_row =
+        complete-step few short by_row =
             record {
               as_long = length-set marks i next ∙ left.as_long;
-              wide = wide;
               by_row = λ covered. by_row covered λ inside same.
                   rw (few, ne_eqb next 1 same) (left.by_row inside);
               whole = rw (few, short, add-one) (rw (drawn-next, add-one) at left.whole);

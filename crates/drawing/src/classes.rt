@@ -3,7 +3,6 @@ ghost use Rattle.std.specs.Prelude.{◌≡◌};
 ghost use Rattle.drawing.specs.Codes.{codes_of};
 ghost use Rattle.requests.specs.Solution.{classes_of};
 
-use crate::common_slots;
 use rule::{Range, UNDER, class_of};
 use settings::LIMIT;
 
@@ -11,16 +10,9 @@ use settings::LIMIT;
 pub fn classify(k: i32, lowest: &[i32], highest: &[i32]) -> [u8; LIMIT]
     ensures { result ≡ codes_of (classes_of k lowest.now highest.now) }
 {
-    let n = common_slots(lowest.len(), highest.len());
     let mut codes = [UNDER; LIMIT];
-    let mut i = 0;
-    while i < n {
-        let range = Range {
-            lowest: lowest[i],
-            highest: highest[i],
-        };
-        codes[i] = class_of(k, range);
-        i += 1;
+    for (i, (&lowest, &highest)) in lowest.iter().zip(highest).take(LIMIT).enumerate() {
+        codes[i] = class_of(k, Range { lowest, highest });
     }
     codes
 }

@@ -2,37 +2,20 @@
 // each can be; and the bytes that say so of a request's slots.
 #![tactic(auto)]
 
-ghost use Rattle.std.specs.Prelude.{◌≡◌, ◌+◌, min, length, take, get_or};
+ghost use Rattle.std.specs.Prelude.{◌≡◌, ◌+◌, take, get_or};
 ghost use Rattle.std.proofs.lemmas.List.Edits.{sets};
-ghost use Rattle.settings.specs.Refusals.{limit, places};
+ghost use Rattle.settings.specs.Refusals.{limit};
 ghost use Rattle.rule.specs.ClassCodes.{decode_all};
 ghost use Rattle.least.specs.Rows.{RowAfter};
 ghost use Rattle.requests.specs.Solution.{completed, drawn_plan};
 
-use crate::marks::{close_window, left_of, next_mark};
 use least::row_after;
+use marks::{close_window, left_of, next_mark};
 use settings::{LIMIT, PLACES, Settings};
 
 mod classes;
-mod marks;
 
 pub use classes::classify;
-
-fn smaller(a: usize, b: usize) -> usize
-    ensures { result ≡ min a b }
-{
-    if b < a {
-        return b;
-    }
-    a
-}
-
-// The number of slots that two slices have in common, or LIMIT if that is smaller.
-fn common_slots(a: usize, b: usize) -> usize
-    ensures { result ≡ min limit (min a b) }
-{
-    smaller(LIMIT, smaller(a, b))
-}
 
 // The row to draw by after a slot with this mark: a new one where its window begins, or has no row yet since
 // the front has it begin with another mark than 1. `before` is the mark before it.
@@ -44,20 +27,12 @@ fn row_for(
     windows: u16,
     row: [u16; PLACES],
 ) -> [u16; PLACES]
-    requires { length row ≡ places }
-    ensures { (length result ≡ places)
-        × ((mark ≡ 0 → ⊥)
-        → ((before ≡ 0 → ⊥) → (mark ≡ 1 → ⊥)
-        → RowAfter settings (decode_all (take limit classes.now)) (windows + 1) row)
-        → RowAfter settings (decode_all (take limit classes.now)) (windows + 1) result) }
+    ensures { let cs = decode_all (take limit classes.now) in
+        (mark ≡ 0 → ⊥) → ((before ≡ 0 → ⊥) → (mark ≡ 1 → ⊥) → RowAfter settings cs (windows + 1) row) →
+        RowAfter settings cs (windows + 1) result }
 {
-    if mark == 0 {
+    if mark == 0 || (before != 0 && mark != 1) {
         return row;
-    }
-    if before != 0 {
-        if mark != 1 {
-            return row;
-        }
     }
     row_after(settings, classes, windows)
 }
@@ -66,20 +41,17 @@ fn row_for(
 fn mark_at(front: &[u8], i: usize, drawn: u8) -> u8
     ensures { result ≡ get_or front.now i drawn }
 {
-    if i < front.len() {
-        return front[i];
-    }
-    drawn
+    front.get(i).copied().unwrap_or(drawn)
 }
 
 // Draws the first LIMIT slots into as many of the first marks (`drawn_plan`): the first plan within both
 // maximums, if there is one and the covered maximum is below 65,535. The settings are not checked: a
-// len of 0 counts as 1.
+// len of 0 counts as 1. It stays beside `complete`, as it is on the page of demands.
 pub fn draw(settings: Settings, classes: &[u8], marks: &mut [u8])
     ensures { marks.new
         ≡ sets marks.old 0 (drawn_plan settings (decode_all (take limit classes.now))) }
 {
-    complete(settings, classes, &classes[..0], marks);
+    complete(settings, classes, &[], marks);
 }
 
 // Draws the first plan that begins with the front, on the same terms (`completed`).
@@ -87,13 +59,12 @@ pub fn complete(settings: Settings, classes: &[u8], front: &[u8], marks: &mut [u
     ensures { marks.new ≡ sets marks.old 0
         (completed settings (decode_all (take limit classes.now)) front.now) }
 {
-    let n = common_slots(classes.len(), marks.len());
+    let n = classes.len().min(marks.len()).min(LIMIT);
     let mut mark = 0;
     let mut windows = settings.windows.most;
     let mut covered = settings.covered.most;
     let mut row = [0; PLACES];
-    let mut i = 0;
-    while i < n {
+    for i in 0..n {
         let before = mark;
         let closed = close_window(before, covered, row[i]);
         mark = mark_at(front, i, next_mark(closed, classes[i]));
@@ -101,6 +72,5 @@ pub fn complete(settings: Settings, classes: &[u8], front: &[u8], marks: &mut [u
         covered = left_of(covered, mark != 0);
         row = row_for(settings, classes, before, mark, windows, row);
         marks[i] = mark;
-        i += 1;
     }
 }

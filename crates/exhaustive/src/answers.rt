@@ -1,104 +1,72 @@
-// The filter's answer in numbers, and what the filter hands back for small requests.
-ghost use Rattle.std.specs.Prelude.{◌≤◌};
-
+// The filter's answer, and what the filter hands back for small requests.
 use crate::samples::Request;
-use filter::{Answer, filter};
+use filter::filter;
+use refusals::Refusal;
 use requests::PlanCounts;
 use settings::Settings;
 
 // What the marks hold before the filter is called.
 pub const UNTOUCHED: u8 = 9;
 
-// The codes of an answer that is no refusal: planned, "no plan", and planned with a changed maximum.
-pub const PLANNED: u16 = 0;
-
-pub const NO_PLAN: u16 = 1;
-
-const MOVED: u16 = 2;
-
-// A code or a refusal's number, the slot of refusal 31, both minimums and the thrift. Without a plan these three are
-// 65,535.
-#[derive(Clone, Copy)]
-pub struct Outcome {
-    pub code: u16,
-    pub slot: usize,
-    pub windows: u16,
-    pub covered: u16,
-    pub thrift: u16,
+// Both minimums and the thrift.
+#[derive(Clone, Copy, PartialEq, Eq)]
+pub struct Least {
+    pub windows: usize,
+    pub covered: usize,
+    pub thrift: usize,
 }
 
-// The answer, and what the three slices hold after the call.
+// A refusal, or a changed maximum: no answer to a small request.
+#[derive(Clone, Copy, PartialEq, Eq)]
+pub struct Wrong;
+
+// The answer, `None` for "no plan", and what the three arrays hold after the call, of which the first n are lent. They
+// are whole arrays, so that what lies after the lent slices is compared too.
 #[derive(Clone, Copy)]
 pub struct Given {
-    pub outcome: Outcome,
+    pub answer: Result<Option<Least>, Wrong>,
     pub lowest: [i32; 8],
     pub highest: [i32; 8],
     pub marks: [u8; 8],
 }
 
-pub fn ask(request: Request, n: u16) -> Given
-    requires { n ≤ 8 }
-{
-    let lowest = request.lowest;
-    let highest = request.highest;
-    call(request.settings, n as usize, lowest, highest)
-}
-
-fn call(settings: Settings, n: usize, lowest: [i32; 8], highest: [i32; 8]) -> Given
-    requires { n ≤ 8 }
-{
-    let mut lowest = lowest;
-    let mut highest = highest;
-    let mut marks = [UNTOUCHED; 8];
-    let answer = filter(
-        settings,
-        &mut lowest[..n],
-        &mut highest[..n],
-        &mut marks[..n],
-    );
-    Given {
-        outcome: outcome_of(settings, answer),
-        lowest,
-        highest,
-        marks,
+impl Request {
+    pub fn ask(&self) -> Given {
+        let n = usize::from(self.n);
+        let mut lowest = self.lowest;
+        let mut highest = self.highest;
+        let mut marks = [UNTOUCHED; 8];
+        let answer = filter(
+            self.settings,
+            &mut lowest[..n],
+            &mut highest[..n],
+            &mut marks[..n],
+        );
+        Given {
+            answer: least_of(self.settings, answer),
+            lowest,
+            highest,
+            marks,
+        }
     }
 }
 
-pub fn outcome_of(settings: Settings, answer: Answer) -> Outcome {
+fn least_of(
+    settings: Settings,
+    answer: Result<Option<PlanCounts>, Refusal>,
+) -> Result<Option<Least>, Wrong> {
     match answer {
-        Answer::Planned(counts) => planned(settings, counts),
-        Answer::NoPlan => without_plan(NO_PLAN, 0),
-        Answer::Refused(refusal) => without_plan(refusal.number(), refusal.slot()),
+        Ok(Some(counts)) if keeps_most(settings, counts) => Ok(Some(Least {
+            windows: usize::from(counts.windows.least),
+            covered: usize::from(counts.covered.least),
+            thrift: usize::from(counts.thrift),
+        })),
+        Ok(None) => Ok(None),
+        _ => Err(Wrong),
     }
 }
 
-fn planned(settings: Settings, counts: PlanCounts) -> Outcome {
-    let moved = (counts.windows.most != settings.windows.most)
-        | (counts.covered.most != settings.covered.most);
-    Outcome {
-        code: if moved { MOVED } else { PLANNED },
-        slot: 0,
-        windows: counts.windows.least,
-        covered: counts.covered.least,
-        thrift: counts.thrift,
-    }
-}
-
-fn without_plan(code: u16, slot: usize) -> Outcome {
-    Outcome {
-        code,
-        slot,
-        windows: 65535,
-        covered: 65535,
-        thrift: 65535,
-    }
-}
-
-// Whether neither is refused, planned stays planned, and the least number of windows grows by no more than `more`.
-pub fn stays_planned(before: Outcome, after: Outcome, more: u32) -> bool
-    requires { more ≤ 1 }
-{
-    (before.code <= NO_PLAN)
-        & (after.code <= before.code)
-        & (after.windows as u32 <= before.windows as u32 + more)
+// Whether both maximums are as they were given.
+pub fn keeps_most(settings: Settings, counts: PlanCounts) -> bool {
+    counts.windows.most == settings.windows.most && counts.covered.most == settings.covered.most
 }

@@ -1,108 +1,60 @@
 // Compares the filter with the search.
-ghost use Rattle.std.specs.Prelude.{◌≤◌};
-
-use crate::answers::{Given, NO_PLAN, PLANNED, UNTOUCHED, ask};
+use crate::answers::{Given, Least, UNTOUCHED};
 use crate::counts::Tally;
-use crate::loads::{ABOVE, load};
-use crate::numbers::larger;
-use crate::samples::{Request, sample_request};
-use crate::search::{Found, occurrences, search};
+use crate::samples::{Request, Sample};
+use crate::search::{Found, search};
 
-// A bit for each of 8 slots.
-const ALL: usize = 255;
-
-pub fn compare(tally: Tally, n: u16, settle: u16, number: usize) -> Tally
-    requires { n ≤ 8 }
-{
-    let request = sample_request(n, settle, 2, number);
-    let given = ask(request, n);
-    let lowest = request.lowest;
-    let highest = request.highest;
-    let found = search(request.settings, n as usize, lowest, highest);
-    tally.with(found.planned, agrees(request, n as usize, given, found))
+pub fn compare(tally: &mut Tally, sample: &Sample) {
+    let request = sample.request();
+    let found = search(&request);
+    tally.add(found.is_some(), agrees(&request, &request.ask(), found));
 }
 
-// Whether the filter gave what was found. A minimum is the least count found or the given one, whichever is larger; no
-// minimum raises the thrift.
-pub fn agrees(request: Request, n: usize, given: Given, found: Found) -> bool
-    requires { n ≤ 8 }
-{
-    let outcome = given.outcome;
-    if !found.planned {
-        return (outcome.code == NO_PLAN) & is_unaltered(request, n, given);
+// Whether the filter gave what was found.
+pub fn agrees(request: &Request, given: &Given, found: Option<Found>) -> bool {
+    match found {
+        Some(found) => {
+            given.answer == Ok(Some(raised(request, found.least)))
+                && is_narrowed(request, given, &found.under, &found.over)
+                && given.marks.starts_with(found.first.bytes())
+        }
+        None => {
+            given.answer == Ok(None)
+                && is_narrowed(request, given, &[true; 8], &[true; 8])
+                && given.marks == [UNTOUCHED; 8]
+        }
     }
-    let marks = given.marks;
-    let first = found.first;
-    (outcome.code == PLANNED)
-        & (outcome.windows == larger(request.settings.windows.least, found.windows))
-        & (outcome.covered == larger(request.settings.covered.least, found.covered))
-        & (outcome.thrift == found.thrift)
-        & is_narrowed(request, n, given, found.under, found.over)
-        & same_marks(n, marks, first)
 }
 
-fn is_unaltered(request: Request, n: usize, given: Given) -> bool
-    requires { n ≤ 8 }
-{
-    let marks = given.marks;
-    is_narrowed(request, n, given, ALL, ALL) & (occurrences(marks, 0, 8, UNTOUCHED) == 8)
+// A minimum is the least count found or the given one, whichever is larger; no minimum raises the thrift.
+fn raised(request: &Request, found: Least) -> Least {
+    let settings = request.settings;
+    Least {
+        windows: found.windows.max(usize::from(settings.windows.least)),
+        covered: found.covered.max(usize::from(settings.covered.least)),
+        thrift: found.thrift,
+    }
 }
 
-// Whether each slot's range lost the side of k for which the slot has no bit, and nothing else.
-fn is_narrowed(request: Request, n: usize, given: Given, under: usize, over: usize) -> bool
-    requires { n ≤ 8 }
-{
+// Whether each slot's range lost its loads on the sides of k that the slot does not keep, and nothing else.
+fn is_narrowed(request: &Request, given: &Given, under: &[bool], over: &[bool]) -> bool {
     let k = request.settings.k;
-    let above = load(request.threshold, ABOVE);
-    let lowest = request.lowest;
-    let highest = request.highest;
-    let given_lowest = given.lowest;
-    let given_highest = given.highest;
-    is_cut(n, k, above, lowest, given_lowest, under, false)
-        & is_cut(n, k, k, highest, given_highest, over, true)
+    let above = request.above();
+    is_cut(
+        request.lowest(),
+        &given.lowest,
+        under,
+        |load| load.max(above),
+    ) && is_cut(request.highest(), &given.highest, over, |load| load.min(k))
 }
 
-// Whether each of the first n loads of `after` is what `cut` makes of the same slot's load in `before`.
-fn is_cut(
-    n: usize,
-    k: i32,
-    bound: i32,
-    before: [i32; 8],
-    after: [i32; 8],
-    keeps: usize,
-    over: bool,
-) -> bool
-    requires { n ≤ 8 }
+// Whether each load is what it was, or cut where its slot does not keep that side of k.
+fn is_cut<C: Fn(i32) -> i32>(before: &[i32], after: &[i32], keeps: &[bool], cut: C) -> bool
+    requires { C.IsAlwaysCallable cut }
 {
-    let mut i = 0;
-    while i < n {
-        if after[i] != cut(before[i], k, bound, keeps >> i & 1 == 1, over) {
-            return false;
-        }
-        i += 1;
-    }
-    true
-}
-
-// Moves a load to the bound if it is on the side of k that `over` names and its slot does not keep that side.
-fn cut(load: i32, k: i32, bound: i32, keeps: bool, over: bool) -> i32 {
-    if keeps | ((load > k) != over) {
-        load
-    } else {
-        bound
-    }
-}
-
-// Whether the first n marks are the same.
-pub fn same_marks(n: usize, marks: [u8; 8], others: [u8; 8]) -> bool
-    requires { n ≤ 8 }
-{
-    let mut i = 0;
-    while i < n {
-        if marks[i] != others[i] {
-            return false;
-        }
-        i += 1;
-    }
-    true
+    let mut loads = before.iter().zip(after).zip(keeps);
+    loads.all(|((before, after), keeps)| {
+        let expected = if *keeps { *before } else { cut(*before) };
+        *after == expected
+    })
 }

@@ -1,9 +1,9 @@
 // Loads at and around the threshold, zero and both ends of their type.
-use crate::numbers::{digit, higher_digits, next, pick};
+use crate::numbers::{Digits, next, pick};
 
-const MIN: i32 = -2147483648;
+const MIN: i32 = i32::MIN;
 
-const MAX: i32 = 2147483647;
+const MAX: i32 = i32::MAX;
 
 // A row for each of seven thresholds, with loads in rising order: four at most the threshold, the last of which is the
 // threshold, and four above it, the first of which is the next number. No load is above the last threshold, so its row
@@ -28,37 +28,35 @@ pub fn load(threshold: usize, place: usize) -> i32 {
 }
 
 // The row of the threshold for a class string. The last row is picked only where each slot is under.
-pub fn threshold(classes: usize, seed: usize) -> usize {
-    let last = if classes == 0 { 6 } else { 5 };
-    pick(seed, last) as usize
+pub fn threshold(classes: Digits, seed: usize) -> usize {
+    let last = if classes.0 == 0 { 6 } else { 5 };
+    usize::from(pick(seed, last))
 }
 
-// The lowest or the highest loads of ranges whose classes are the digits of a class string: 0 under only, 1 over only,
+// The lowest and the highest loads of ranges whose classes are the digits of a class string: 0 under only, 1 over only,
 // 2 open. The highest digit is most.
-pub fn spread(threshold: usize, classes: usize, most: u16, seed: usize, highest: bool) -> [i32; 8] {
-    let mut loads = [0; 8];
+pub fn spread(threshold: usize, classes: Digits, most: u16, seed: usize) -> ([i32; 8], [i32; 8]) {
+    let mut lowest = [0; 8];
+    let mut highest = [0; 8];
     let mut left = classes;
     let mut random = seed;
-    let mut i = 0;
-    while i < 8 {
-        loads[i] = load(threshold, end(digit(left, most), random, highest));
-        left = higher_digits(left, most);
+    for (low, high) in lowest.iter_mut().zip(highest.iter_mut()) {
+        let (a, b) = places(left.up_to(most), random);
+        *low = load(threshold, a.min(b));
+        *high = load(threshold, a.max(b));
         random = next(random);
-        i += 1;
     }
-    loads
+    (lowest, highest)
 }
 
-// The place of one end of a range of this class. Two places are picked: both of under loads, both of over loads, or one
-// of each.
-fn end(class: u16, seed: usize, highest: bool) -> usize {
-    let mut a = seed / 65536 % 4;
-    let mut b = seed / 262144 % 4;
-    if class == 1 {
-        a += ABOVE;
+// Two places for a class, a digit that is read here and nowhere else: both of under loads, both of over loads, or one of
+// each.
+fn places(class: u16, seed: usize) -> (usize, usize) {
+    let a = seed / 65536 % 4;
+    let b = seed / 262144 % 4;
+    match class {
+        0 => (a, b),
+        1 => (a + ABOVE, b + ABOVE),
+        _ => (a, b + ABOVE),
     }
-    if class != 0 {
-        b += ABOVE;
-    }
-    if (a > b) == highest { a } else { b }
 }

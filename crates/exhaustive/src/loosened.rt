@@ -1,83 +1,70 @@
 // Tests demand 3 on two requests, of which one is looser.
-ghost use Rattle.std.specs.Prelude.{◌≤◌};
-
-use crate::answers::{Given, NO_PLAN, PLANNED, ask, stays_planned};
+use crate::answers::Given;
 use crate::counts::Tally;
 use crate::loads::load;
-use crate::numbers::{larger, next, pick, saturating_sub};
-use crate::samples::{Request, sample_request};
+use crate::numbers::{next, pick};
+use crate::samples::{Request, Sample};
 use rule::Shape;
 use settings::{CountRange, Settings};
 
-pub fn compare(tally: Tally, n: u16, settle: u16, number: usize) -> Tally
-    requires { n ≤ 8 }
-{
-    let request = sample_request(n, settle, 2, number);
-    let tighter = ask(request, n);
-    let looser = ask(loosened(request, n, next(number)), n);
-    tally.with(tighter.outcome.code == PLANNED, agrees(tighter, looser))
+pub fn compare(tally: &mut Tally, sample: &Sample) {
+    let request = sample.request();
+    let tighter = request.ask();
+    let looser = loosened(&request, next(sample.number)).ask();
+    tally.add(
+        matches!(tighter.answer, Ok(Some(_))),
+        agrees(&tighter, &looser),
+    );
 }
 
-fn agrees(tighter: Given, looser: Given) -> bool {
-    let before = tighter.outcome;
-    let after = looser.outcome;
-    if before.code == NO_PLAN {
-        return stays_planned(before, after, 0);
-    }
-    stays_planned(before, after, 0)
-        & (after.covered <= before.covered)
-        & lies_within(tighter, looser)
-}
-
-fn lies_within(tighter: Given, looser: Given) -> bool {
-    let tighter_lowest = tighter.lowest;
-    let tighter_highest = tighter.highest;
-    let looser_lowest = looser.lowest;
-    let looser_highest = looser.highest;
-    at_most(looser_lowest, tighter_lowest) & at_most(tighter_highest, looser_highest)
-}
-
-fn at_most(loads: [i32; 8], others: [i32; 8]) -> bool {
-    let mut i = 0;
-    while i < 8 {
-        if loads[i] > others[i] {
-            return false;
+// Whether neither is wrong, planned stays planned, no minimum grows, and the ranges lie within each other.
+fn agrees(tighter: &Given, looser: &Given) -> bool {
+    match (tighter.answer, looser.answer) {
+        (Ok(None), Ok(_)) => true,
+        (Ok(Some(before)), Ok(Some(after))) => {
+            after.windows <= before.windows
+                && after.covered <= before.covered
+                && at_most(&looser.lowest, &tighter.lowest)
+                && at_most(&tighter.highest, &looser.highest)
         }
-        i += 1;
+        _ => false,
     }
-    true
+}
+
+fn at_most(loads: &[i32], others: &[i32]) -> bool {
+    loads.iter().zip(others).all(|(load, other)| load <= other)
 }
 
 // A looser request: no range narrower, len, h and maximums no smaller, the settle count and minimums no larger; k and n
 // stay the same.
-fn loosened(request: Request, n: u16, seed: usize) -> Request {
-    let lowest = request.lowest;
-    let highest = request.highest;
-    let lower = moved(lowest, request.threshold, next(seed / 2), false);
-    let higher = moved(highest, request.threshold, next(seed / 3), true);
-    Request {
-        settings: loosened_settings(request.settings, n, next(seed / 5)),
-        threshold: request.threshold,
-        lowest: lower,
-        highest: higher,
-    }
+fn loosened(request: &Request, seed: usize) -> Request {
+    let mut looser = *request;
+    let threshold = request.threshold;
+    move_some(
+        &mut looser.lowest,
+        threshold,
+        next(seed / 2),
+        |load, other| load.min(other),
+    );
+    move_some(
+        &mut looser.highest,
+        threshold,
+        next(seed / 3),
+        |load, other| load.max(other),
+    );
+    looser.settings = loosened_settings(request.settings, request.n, next(seed / 5));
+    looser
 }
 
-// Moves some of the loads, all of these up or all of these down.
-fn moved(loads: [i32; 8], threshold: usize, seed: usize, up: bool) -> [i32; 8] {
-    let mut now = loads;
+// Moves each load as far as another one of the row of the threshold, or not at all.
+fn move_some<M: Fn(i32, i32) -> i32>(loads: &mut [i32], threshold: usize, seed: usize, moved: M)
+    requires { M.IsAlwaysCallable moved }
+{
     let mut random = seed;
-    let mut i = 0;
-    while i < 8 {
-        now[i] = moved_to(now[i], load(threshold, random / 65536), up);
+    for now in loads.iter_mut() {
+        *now = moved(*now, load(threshold, random / 65536));
         random = next(random);
-        i += 1;
     }
-    now
-}
-
-fn moved_to(load: i32, other: i32, up: bool) -> i32 {
-    if (other > load) == up { other } else { load }
 }
 
 fn loosened_settings(settings: Settings, n: u16, seed: usize) -> Settings {
@@ -92,10 +79,10 @@ fn loosened_settings(settings: Settings, n: u16, seed: usize) -> Settings {
 // The h picked is accepted with the len picked, so that the larger h is accepted with the larger len.
 fn loosened_shape(shape: Shape, n: u16, seed: usize) -> Shape {
     let len = pick(seed, n);
-    let h = pick(next(seed), saturating_sub(len, 2));
+    let h = pick(next(seed), len.saturating_sub(2));
     Shape {
-        len: larger(shape.len, len),
-        h: larger(shape.h, h),
+        len: shape.len.max(len),
+        h: shape.h.max(h),
         settle: pick(next(seed / 2), shape.settle),
     }
 }
@@ -103,6 +90,6 @@ fn loosened_shape(shape: Shape, n: u16, seed: usize) -> Shape {
 fn loosened_counts(range: CountRange, n: u16, seed: usize) -> CountRange {
     CountRange {
         least: pick(next(seed), range.least),
-        most: larger(range.most, pick(seed, n)),
+        most: range.most.max(pick(seed, n)),
     }
 }

@@ -20,9 +20,9 @@
 #![tactic(auto)]
 
 use crate::calls::{CALLS, FILTER_CALLS, JUDGE_CALLS, PAGING_CALLS, STARTS};
-use crate::counts::write;
-use crate::refused::Operation;
-use crate::runs::{Kind, run};
+use crate::counts::Tally;
+use crate::runs::{Line, Sampling, run};
+use crate::samples::Sample;
 
 mod answers;
 mod calls;
@@ -38,28 +38,117 @@ mod runs;
 mod samples;
 mod search;
 mod settled;
+mod strings;
 mod table;
 mod watched;
 
+// `&` stands here, and not `&&`, wherever all lines are to be printed, also below one that differs.
 fn main(rt: HostRuntime) {
     let plans = compare(&rt, 0) & compare(&rt, 1) & compare(&rt, 2) & compare(&rt, 3);
-    let watches = run(&rt, Kind::Watched, 0, 1, 9);
-    let refusals = refused::run(&rt, Operation::Filter, FILTER_CALLS, CALLS)
-        & refused::run(&rt, Operation::Judge, JUDGE_CALLS, CALLS)
-        & refused::run(&rt, Operation::Start, STARTS, STARTS)
-        & refused::run(&rt, Operation::Writer, FILTER_CALLS, CALLS)
-        & refused::run(&rt, Operation::Paging, 0, PAGING_CALLS);
-    if plans & watches & refusals {
-        write(&rt, b"all agree\n");
+    let watches = Line {
+        name: "watches",
+        met: "with windows",
+        settle: 0,
+        most: 1,
+        sampling: Sampling::All,
+    };
+    let watches = run(&rt, watches, 1, 9, watched::compare);
+    if plans & watches & refusals(&rt) {
+        let _ = println!(&rt; "all agree");
     }
 }
 
 fn compare(rt: &impl Print, settle: u16) -> bool {
-    run(rt, Kind::Filtered, settle, 1, 6)
-        & run(rt, Kind::Filtered, settle, 6, 9)
-        & run(rt, Kind::Judged, settle, 1, 5)
-        & run(rt, Kind::Paged, settle, 1, 9)
-        & run(rt, Kind::Loosened, settle, 1, 9)
-        & run(rt, Kind::SettledUnder, settle, 1, 9)
-        & run(rt, Kind::SettledOver, settle, 1, 9)
+    let requests = Line {
+        name: "requests",
+        met: "planned",
+        settle,
+        most: 2,
+        sampling: Sampling::Longer,
+    };
+    let plans = Line {
+        name: "plans",
+        met: "yes",
+        most: 1,
+        ..requests
+    };
+    let pages = Line {
+        name: "pages",
+        met: "next",
+        sampling: Sampling::Paged,
+        ..requests
+    };
+    let loosenings = Line {
+        name: "loosenings",
+        ..requests
+    };
+    let under = Line {
+        name: "settlings under",
+        ..requests
+    };
+    let over = Line {
+        name: "settlings over",
+        ..requests
+    };
+    run(rt, requests, 1, 6, filtered::compare)
+        & run(rt, requests, 6, 9, filtered::compare)
+        & run(rt, plans, 1, 5, judged::compare)
+        & run(rt, pages, 1, 9, paged::compare)
+        & run(rt, loosenings, 1, 9, loosened::compare)
+        & settlings(rt, under, false)
+        & settlings(rt, over, true)
+}
+
+fn settlings(rt: &impl Print, line: Line, over: bool) -> bool {
+    let met = if settled::holds(line.settle, over) {
+        "planned"
+    } else {
+        "broken"
+    };
+    run(
+        rt,
+        Line { met, ..line },
+        1,
+        9,
+        |tally: &mut Tally, sample: &Sample| settled::compare(tally, sample, over),
+    )
+}
+
+fn refusals(rt: &impl Print) -> bool {
+    refused::run(
+        rt,
+        "filter calls",
+        FILTER_CALLS,
+        CALLS,
+        table::request,
+        refused::filtered,
+    ) & refused::run(
+        rt,
+        "judge calls",
+        JUDGE_CALLS,
+        CALLS,
+        table::judge,
+        refused::judged,
+    ) & refused::run(
+        rt,
+        "watch starts",
+        STARTS,
+        STARTS,
+        table::request,
+        refused::started,
+    ) & refused::run(
+        rt,
+        "writer calls",
+        FILTER_CALLS,
+        CALLS,
+        table::writer,
+        refused::written,
+    ) & refused::run(
+        rt,
+        "paging calls",
+        0,
+        PAGING_CALLS,
+        table::paging,
+        refused::paged,
+    )
 }

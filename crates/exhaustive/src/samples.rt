@@ -1,68 +1,98 @@
 // Small requests by number.
 ghost use Rattle.std.specs.Prelude.{◌≤◌};
 
-use crate::loads::{AT, load, spread, threshold};
-use crate::numbers::{digit, higher_digits, next, pick};
+use crate::loads::{ABOVE, AT, load, spread, threshold};
+use crate::numbers::{Digits, next, pick};
 use rule::Shape;
 use settings::{CountRange, Settings};
 
-// A request of at most 8 slots, with the row of its threshold.
+// The number of a request of n slots with this settle count. Its classes are digits from 0 to `most`.
+#[derive(Clone, Copy)]
+pub struct Sample {
+    pub n: u16,
+    pub settle: u16,
+    pub most: u16,
+    pub number: usize,
+    ghost small: { n ≤ 8 },
+}
+
+// A request, with the row of its threshold. Its loads are the first n of two arrays, since the planner takes two slices;
+// not two of `ArrayVec<i32, 8>`, whose `clone` gives a `Result`, since a request is copied to be asked, loosened and
+// settled.
 #[derive(Clone, Copy)]
 pub struct Request {
     pub settings: Settings,
     pub threshold: usize,
+    pub n: u16,
     pub lowest: [i32; 8],
     pub highest: [i32; 8],
+    ghost small: { n ≤ 8 },
 }
 
-// The request of n slots with this settle count and this number. The number's digits are, from the lowest on: len, h,
-// the window maximum and the covered maximum, each up to n, and the class string, whose highest digit is most.
-pub fn sample_request(n: u16, settle: u16, most: u16, number: usize) -> Request {
-    let seed = next(next(number));
-    let counts = higher_digits(higher_digits(number, n), n);
-    let classes = higher_digits(higher_digits(counts, n), n);
-    let threshold = threshold(classes, seed);
-    let lowest = spread(threshold, classes, most, next(seed), false);
-    let highest = spread(threshold, classes, most, next(seed), true);
-    Request {
-        settings: Settings {
-            k: load(threshold, AT),
-            shape: shape(n, settle, number),
-            windows: up_to(digit(counts, n), next(seed / 2)),
-            covered: up_to(digit(higher_digits(counts, n), n), next(seed / 3)),
-        },
-        threshold,
-        lowest,
-        highest,
+impl Sample {
+    // The number's digits are, from the lowest on: len, h, the window maximum and the covered maximum, each up to n,
+    // and the class string.
+    pub fn request(&self) -> Request {
+        let n = self.n;
+        let seed = next(next(self.number));
+        let mut digits = Digits(self.number);
+        let shape = shape(&mut digits, n, self.settle);
+        let windows = digits.up_to(n);
+        let covered = digits.up_to(n);
+        let threshold = threshold(digits, seed);
+        let (lowest, highest) = spread(threshold, digits, self.most, next(seed));
+        Request {
+            settings: Settings {
+                k: load(threshold, AT),
+                shape,
+                windows: counts(windows, next(seed / 2)),
+                covered: counts(covered, next(seed / 3)),
+            },
+            threshold,
+            n,
+            lowest,
+            highest,
+        }
+    }
+
+    // Whether the request has an accepted len and h.
+    pub fn is_accepted(&self) -> bool {
+        let shape = shape(&mut Digits(self.number), self.n, self.settle);
+        shape.len > 0 && (shape.h == 0 || shape.h + 1 < shape.len)
     }
 }
 
-// The settle count with len and h, which are the two lowest digits of a number.
-fn shape(n: u16, settle: u16, number: usize) -> Shape
+// The settle count with len and h, which are the two lowest digits.
+fn shape(digits: &mut Digits, n: u16, settle: u16) -> Shape
     ensures { result.h ≤ n }
 {
     Shape {
-        len: digit(number, n),
-        h: digit(higher_digits(number, n), n),
+        len: digits.up_to(n),
+        h: digits.up_to(n),
         settle,
     }
 }
 
-// Whether the request of n slots with this number has an accepted len and h.
-pub fn is_accepted(n: u16, number: usize) -> bool
-    requires { n ≤ 8 }
-{
-    let shape = shape(n, 0, number);
-    (shape.len > 0) & ((shape.h == 0) | (shape.h + 1 < shape.len))
+// A count range with this maximum. In half of the cases its minimum is 0.
+fn counts(most: u16, seed: usize) -> CountRange {
+    let least = match pick(seed, 1) {
+        0 => 0,
+        _ => pick(next(seed), most),
+    };
+    CountRange { least, most }
 }
 
-// A count range with this maximum. In half of the cases its minimum is 0.
-fn up_to(most: u16, seed: usize) -> CountRange {
-    if pick(seed, 1) == 0 {
-        return CountRange { least: 0, most };
+impl Request {
+    pub fn lowest(&self) -> &[i32] {
+        &self.lowest[..usize::from(self.n)]
     }
-    CountRange {
-        least: pick(next(seed), most),
-        most,
+
+    pub fn highest(&self) -> &[i32] {
+        &self.highest[..usize::from(self.n)]
+    }
+
+    // The least load above the threshold.
+    pub fn above(&self) -> i32 {
+        load(self.threshold, ABOVE)
     }
 }

@@ -1,10 +1,9 @@
 // Tests demand 3 on an open slot that is settled, with the window range 0 to n: at most one more window is needed.
-ghost use Rattle.std.specs.Prelude.{◌≤◌, ◌<◌};
+ghost use Rattle.std.specs.Prelude.{◌<◌};
 
-use crate::answers::{Outcome, PLANNED, ask, stays_planned};
+use crate::answers::{Least, Wrong};
 use crate::counts::Tally;
-use crate::loads::{ABOVE, load};
-use crate::samples::{Request, sample_request};
+use crate::samples::{Request, Sample};
 
 // Whether that has to hold (document 02, T-06). Where it does not, it is only counted how often it fails.
 pub fn holds(settle: u16, over: bool) -> bool {
@@ -15,72 +14,58 @@ pub fn holds(settle: u16, over: bool) -> bool {
 }
 
 // Settles every open slot, under or over, of the requests whose window maximum is n. Their window minimum becomes 0.
-pub fn compare(tally: Tally, n: u16, settle: u16, over: bool, number: usize) -> Tally
-    requires { n ≤ 8 }
-{
-    let mut request = sample_request(n, settle, 2, number);
-    if request.settings.windows.most != n {
-        return tally;
+// `over` stays a flag: a closure that settles would have a condition on its slot, which each caller would repeat.
+pub fn compare(tally: &mut Tally, sample: &Sample, over: bool) {
+    let mut request = sample.request();
+    if request.settings.windows.most != request.n {
+        return;
     }
     request.settings.windows.least = 0;
-    settle_each(tally, request, n, over)
-}
-
-fn settle_each(before: Tally, request: Request, n: u16, over: bool) -> Tally
-    requires { n ≤ 8 }
-{
-    let given = ask(request, n);
-    let outcome = given.outcome;
-    let mut tally = before;
-    let mut i = 0;
-    while i < n {
-        tally = settle(tally, request, n, outcome, i as usize, over);
-        i += 1;
+    let before = request.ask().answer;
+    for slot in 0..usize::from(request.n) {
+        if let Some(settled) = settled(request, slot, over) {
+            let stays = stays_planned(before, settled.ask().answer);
+            if holds(sample.settle, over) {
+                tally.add(matches!(before, Ok(Some(_))), stays);
+            } else {
+                tally.add(!stays, true);
+            }
+        }
     }
-    tally
 }
 
-fn settle(tally: Tally, request: Request, n: u16, before: Outcome, slot: usize, over: bool) -> Tally
-    requires { (n ≤ 8) × (slot < 8) }
-{
-    if !is_open(request, slot) {
-        return tally;
-    }
-    let given = ask(settled(request, n, slot, over), n);
-    let stays = stays_planned(before, given.outcome, 1);
-    if holds(request.settings.shape.settle, over) {
-        return tally.with(before.code == PLANNED, stays);
-    }
-    tally.with(!stays, true)
-}
-
-fn is_open(request: Request, i: usize) -> bool
-    requires { i < 8 }
-{
-    (request.lowest[i] <= request.settings.k) & (request.highest[i] > request.settings.k)
-}
-
-// Settled under, the slot's highest load becomes the threshold. Settled over, its lowest load becomes the next number,
-// and the covered maximum becomes one more, but at most n.
-fn settled(request: Request, n: u16, slot: usize, over: bool) -> Request
+// Settled under, an open slot's highest load becomes the threshold. Settled over, its lowest load becomes the next
+// number, and the covered maximum becomes one more, but at most n.
+fn settled(request: Request, slot: usize, over: bool) -> Option<Request>
     requires { slot < 8 }
 {
+    let k = request.settings.k;
+    if request.lowest[slot] > k || request.highest[slot] <= k {
+        return None;
+    }
     let mut settled = request;
     if over {
-        let above = load(request.threshold, ABOVE);
-        let most = one_more(request.settings.covered.most, n);
-        settled.lowest[slot] = above;
-        settled.settings.covered.most = most;
-        return settled;
+        settled.lowest[slot] = request.above();
+        settled.settings.covered.most = request
+            .settings
+            .covered
+            .most
+            .saturating_add(1)
+            .min(request.n);
+    } else {
+        settled.highest[slot] = k;
     }
-    let k = request.settings.k;
-    settled.highest[slot] = k;
-    settled
+    Some(settled)
 }
 
-fn one_more(most: u16, n: u16) -> u16 {
-    if most >= n {
-        return n;
+// Whether neither is wrong, planned stays planned, and the least number of windows grows by no more than one.
+fn stays_planned(
+    before: Result<Option<Least>, Wrong>,
+    after: Result<Option<Least>, Wrong>,
+) -> bool {
+    match (before, after) {
+        (Ok(None), Ok(_)) => true,
+        (Ok(Some(before)), Ok(Some(after))) => after.windows <= before.windows.saturating_add(1),
+        _ => false,
     }
-    most + 1
 }

@@ -1,134 +1,74 @@
 // Document 01's table "Where each refusal is checked", for its places lengths, settings and slots, with the rows of
-// document 02's T-01, T-05 and T-06. No function of the planner is used here.
-ghost use Rattle.std.specs.Prelude.{◌≤◌};
-
-use crate::calls::{
-    buffer_length, crossed, given_length, highest_length, is_plan_given, marks_length, settings,
-    shape, slots,
-};
+// document 02's T-01, T-05 and T-06. No function of the planner is used here. Each check gives the document's number of
+// the first refusal that applies, and not a `Refusal`: its `number` is a function of the planner, which is tested here
+// too.
+use crate::calls::{Call, Given};
 use settings::{CountRange, Settings};
 
-// The number of the first refusal that applies to a call, or 0. A start of the watch is a call for 64 slots.
-pub fn refusal(call: u32) -> u16
-    ensures { result ≤ 31 }
-{
-    request_refusal(call, marks_length(call) != slots(call))
+// A row of the table.
+fn row(number: u16, applies: bool) -> Result<(), u16> {
+    if applies {
+        return Err(number);
+    }
+    Ok(())
 }
 
-// The same for a call of the judge, which has no highest loads.
-pub fn judge_refusal(call: u32) -> u16
-    ensures { result ≤ 31 }
-{
-    let n = slots(call);
-    let wrong = wrong_lengths(n, marks_length(call) != n);
-    if wrong > 0 {
-        return wrong;
-    }
-    wrong_settings(settings(call), n)
+// A call of the filter. A start of the watch is a call for 64 slots.
+pub fn request(call: &Call) -> Result<(), u16> {
+    lengths(call, call.highest() != call.n || call.marks() != call.n)?;
+    contents(call)
 }
 
-// The same for a call of the writer: 28 and 18 come last.
-pub fn writer_refusal(call: u32) -> u16
-    ensures { result ≤ 31 }
-{
-    let number = request_refusal(call, false);
-    if number > 0 {
-        return number;
-    }
-    let shape = shape(call);
-    if shape.settle != 1 {
-        return 28;
-    }
-    if buffer_length(call) < 16 + 8 * slots(call) {
-        return 18;
-    }
-    0
+// A call of the judge, which has no highest loads.
+pub fn judge(call: &Call) -> Result<(), u16> {
+    lengths(call, call.marks() != call.n)?;
+    settings(call.settings, call.n)
 }
 
-// The same for a call of paging: 22 exempts an empty given slice, 34 comes right after 22, and 35 comes last.
-pub fn paging_refusal(call: u32) -> u16
-    ensures { result ≤ 35 }
-{
-    let n = slots(call);
-    let given = given_length(call);
-    let wrong = wrong_lengths(
-        n,
-        (highest_length(call) != n) | (marks_length(call) != n) | ((given != n) & (given != 0)),
-    );
-    if wrong > 0 {
-        return wrong;
-    }
-    if n > 12 {
-        return 34;
-    }
-    let number = wrong_contents(call);
-    if (number == 0) & !is_plan_given(call) {
-        return 35;
-    }
-    number
+// A call of the writer: 28 and 18 come last.
+pub fn writer(call: &Call) -> Result<(), u16> {
+    lengths(call, call.highest() != call.n)?;
+    contents(call)?;
+    row(28, call.settings.shape.settle != 1)?;
+    row(18, call.buffer() < call.file())
 }
 
-// `different` says whether a slice other than the loads has another length.
-fn request_refusal(call: u32, different: bool) -> u16
-    ensures { result ≤ 31 }
-{
-    let n = slots(call);
-    let wrong = wrong_lengths(n, (highest_length(call) != n) | different);
-    if wrong > 0 {
-        return wrong;
-    }
-    wrong_contents(call)
+// A call of paging: 22 exempts an empty given slice, 34 comes right after 22, and 35 comes last.
+pub fn paging(call: &Call) -> Result<(), u16> {
+    let given = call.given() != call.n && call.given() != 0;
+    lengths(
+        call,
+        call.highest() != call.n || call.marks() != call.n || given,
+    )?;
+    row(34, call.n > 12)?;
+    contents(call)?;
+    row(35, matches!(call.given, Given::NoPlan))
 }
 
 // `different` says whether a slice other than the first has another length.
-fn wrong_lengths(n: u16, different: bool) -> u16
-    ensures { result ≤ 22 }
-{
-    if (n == 0) | (n > 64) {
-        return 21;
-    }
-    if different {
-        return 22;
-    }
-    0
+fn lengths(call: &Call, different: bool) -> Result<(), u16> {
+    row(21, call.n == 0 || call.n > 64)?;
+    row(22, different)
 }
 
 // The settings and the slots.
-fn wrong_contents(call: u32) -> u16
-    ensures { result ≤ 31 }
-{
-    let n = slots(call);
-    let wrong = wrong_settings(settings(call), n);
-    if wrong > 0 {
-        return wrong;
-    }
-    if crossed(call) < n {
-        return 31;
-    }
-    0
+fn contents(call: &Call) -> Result<(), u16> {
+    settings(call.settings, call.n)?;
+    row(31, call.crossed().is_some_and(|slot| slot < call.n))
 }
 
-fn wrong_settings(settings: Settings, n: u16) -> u16
-    ensures { result ≤ 27 }
-{
-    if (settings.shape.len == 0) | (settings.shape.len > n) {
-        return 23;
-    }
-    if (settings.shape.h > 0) & (settings.shape.h as u32 + 1 >= settings.shape.len as u32) {
-        return 24;
-    }
-    if is_wrong(settings.windows, n) {
-        return 25;
-    }
-    if is_wrong(settings.covered, n) {
-        return 26;
-    }
-    if settings.shape.settle > 8 {
-        return 27;
-    }
-    0
+fn settings(settings: Settings, n: u16) -> Result<(), u16> {
+    let shape = settings.shape;
+    row(23, shape.len == 0 || shape.len > n)?;
+    row(
+        24,
+        shape.h > 0 && u32::from(shape.h) + 1 >= u32::from(shape.len),
+    )?;
+    row(25, is_wrong(settings.windows, n))?;
+    row(26, is_wrong(settings.covered, n))?;
+    row(27, shape.settle > 8)
 }
 
 fn is_wrong(range: CountRange, n: u16) -> bool {
-    (range.least > range.most) | (range.most > n)
+    range.least > range.most || range.most > n
 }

@@ -1,5 +1,5 @@
 -- A plan that is drawn on window by window, for the loop of `pen::draw_rest`.
-use Prim.Native.Nat.{ℕ, ◌+◌, ◌-◌, ◌≤◌, ◌<◌, min}
+use Prim.Native.Nat.{ℕ, ◌-◌, ◌≤◌, ◌<◌, min}
 use native.Mathlib.Omega.{arith}
 use mathlib.Core.List.{List}
 use mathlib.Core.Logic.{◌⊎◌, ⊎_elim}
@@ -11,9 +11,7 @@ use Rattle.requests.specs.Drawing.{left_of}
 use Rattle.rule.specs.ClassCodes.{decode, decode_all}
 use Rattle.rule.specs.declared.Shape.{Shape}
 use Rattle.fast.proofs.DrawLoop.{drawn_on-done}
-use Rattle.fast.proofs.FillLoop.{ring-row, ring-fewer}
 use Rattle.fast.specs.Pen.{drawn_on}
-use Rattle.fast.specs.Ring.{ring_rows, ring_places, place_of, Ring}
 use Rattle.fast.specs.Rows.{Row}
 use Rattle.fast.specs.declared.pen.Pen.{Pen}
 
@@ -43,17 +41,14 @@ module _ (shape : Shape) (classes : List ℕ) where
 
   module _ (w : ℕ) (begun : Pen) (before : List ℕ) where
     -- to draw on, where the first of `left` windows has just opened, is to draw on from the start
-    pub record RestToDraw (rows marks : List ℕ) (pen : Pen) (left last : ℕ) : Type 0 where
+    pub record RestToDraw (marks : List ℕ) (pen : Pen) (left : ℕ) : Type 0 where
       pub as_long : length marks ≡ length before
-      pub wide : length rows ≡ ring_places
-      pub ring : Ring shape (decode_all classes) left rows last
       pub whole : draws (left - 1) pen marks ≡ draws (w - 1) begun before
 
-    pub rest-start : {rows : List ℕ} {top : ℕ} → length rows ≡ ring_places → Ring shape (decode_all classes) w rows top →
-        RestToDraw rows before begun w top
-    rest-start wide ring = record { as_long = refl; wide = wide; ring = ring; whole = refl }
+    pub rest-start : RestToDraw before begun w
+    rest-start = record { as_long = refl; whole = refl }
 
-    module _ {rows marks : List ℕ} (pen : Pen) {left last : ℕ} (rest : RestToDraw rows marks pen left last) where
+    module _ {marks : List ℕ} (pen : Pen) {left : ℕ} (rest : RestToDraw marks pen left) where
       pub rest_end : min (length classes) (length before) ≤ pen.slot → marks ≡ draws (w - 1) begun before
       rest_end e = sym (done (left - 1) pen marks (omega (arith, e, rest.as_long))) ∙ rest.whole
 
@@ -63,19 +58,15 @@ module _ (shape : Shape) (classes : List ℕ) where
           let more : pen.slot < pen'.slot = further (omega (arith, rest.as_long)) in
           omega arith
 
-      -- the ring has been made ready, and what is left is drawn until a window opens
-      pub rest-step : {rows' marks' : List ℕ} (pen' : Pen) {left' last' at : ℕ} → length rows' ≡ ring_places →
-          length marks' ≡ length marks → Ring shape (decode_all classes) left rows' last' →
-          last' < left - 1 + ring_rows → left' ≡ left - 1 → at ≡ place_of (min left' last') →
+      -- what is left is drawn until a window opens, by the row for one window fewer
+      pub rest-step : {marks' row : List ℕ} (pen' : Pen) {left' : ℕ} → length marks' ≡ length marks →
+          left' ≡ left - 1 → Row shape (decode_all classes) left' row →
           (min (length classes) (length marks) ≤ pen'.slot) ⊎ (pen'.mark ≡ 1) →
-          ((w : ℕ) → Row shape (decode_all classes) w rows' at →
+          ((w : ℕ) → Row shape (decode_all classes) w row →
           draws (left_of w (eqb pen'.mark 1)) pen' marks' ≡ draws w pen marks) →
-          RestToDraw rows' marks' pen' left' last'
-      rest-step pen' {left'} wide as_long ring recent one at ended drawn =
-          let row = rw (← one, ← at) at (ring-row ring (left - 1) (omega arith) recent) in
+          RestToDraw marks' pen' left'
+      rest-step pen' {left'} as_long one counts ended drawn =
           record {
             as_long = as_long ∙ rest.as_long;
-            wide = wide;
-            ring = ring-fewer (omega arith) ring;
-            whole = drawn-left left' pen' _ as_long ended ∙ drawn left' row ∙ rw (← one) at rest.whole;
+            whole = drawn-left left' pen' _ as_long ended ∙ drawn left' counts ∙ rw (← one) at rest.whole;
           }

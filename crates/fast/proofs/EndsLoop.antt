@@ -56,58 +56,49 @@ module _ (settle : ℕ) (classes : List ℕ) where
             (eq-or-lt_of_le p);
       }
 
-  pub lacking-end : {lacks : List ℕ} {i : ℕ} → i ≤ 0 → LackingFrom lacks i →
-      (length lacks ≡ places) × LacksFrom settle (decode_all classes) lacks
+  pub lacking-end : {lacks : List ℕ} {i : ℕ} → i ≤ 0 → LackingFrom lacks i → LacksFrom settle (decode_all classes) lacks
   lacking-end e f =
-      (f.wide, record { counts = λ j l. f.counts j (omega arith) (omega (arith, l, length-map classes decode)) })
+      record { counts = λ j l. f.counts j (omega arith) (omega (arith, l, length-map classes decode)) }
 
-module _ (classes lacks rows : List ℕ) (at : ℕ) where
+module _ (shape : Shape) (classes row : List ℕ) where
   abbrev cs : List Class
   cs = decode_all classes
 
   -- what comes after a window that ends with each of the slots before slot i
   pub record EndsBefore (ends : List ℕ) (i : ℕ) : Type 0 where
-    pub inside : i ≤ length classes
     pub wide : length ends ≡ places
-    pub counts : (shape : Shape) (w : ℕ) → LacksFrom shape.settle cs lacks → Row shape cs w rows at →
-        (j : ℕ) → j < i → get_or ends j 0 ≡ end_at shape cs j w
+    pub counts : (w : ℕ) → Row shape cs w row → (j : ℕ) → j < i → get_or ends j 0 ≡ end_at shape cs j w
 
   pub ends-start : {ends : List ℕ} → length ends ≡ places → EndsBefore ends 0
-  ends-start e = record { inside = omega arith; wide = e; counts = λ shape w l r j p. absurd (omega arith) }
+  ends-start e = record { wide = e; counts = λ w r j p. absurd (omega arith) }
 
-  pub ends-step : (ends : List ℕ) (i v : ℕ) → length classes ≤ limit → i < length classes → EndsBefore ends i →
+  pub ends-step : {lacks : List ℕ} (ends : List ℕ) (i v : ℕ) → length classes ≤ limit →
+      LacksFrom shape.settle cs lacks → i < length classes → EndsBefore ends i →
       v ≡ cond (allows (decode (get_or classes i 0)) 2)
-      (cond (eqb (get_or lacks (i + 1) 0) 0) (get_or rows (at + (i + 1)) 0) sentinel) sentinel →
+      (cond (eqb (get_or lacks (i + 1) 0) 0) (get_or row (i + 1) 0) sentinel) sentinel →
       EndsBefore (set ends i v) (i + 1)
-  ends-step ends i v e there f is =
+  ends-step ends i v e lacking there f is =
       record {
-        inside = omega arith;
         wide = length-set ends i v ∙ f.wide;
-        counts = λ shape w l r.
+        counts = λ w r.
             written-before (λ j y. y ≡ end_at shape cs j w) ends i v 0 (omega (arith, e, there, f.wide))
-            (f.counts shape w l r) (here shape w l r);
+            (f.counts w r) (here w r);
       }
     where
       slots : length cs ≡ length classes
       slots = length-map classes decode
 
-      here : (shape : Shape) (w : ℕ) → LacksFrom shape.settle cs lacks → Row shape cs w rows at →
-          v ≡ end_at shape cs i w
-      here shape w l r =
+      here : (w : ℕ) → Row shape cs w row → v ≡ end_at shape cs i w
+      here w r =
           rw (
             is,
             class-at classes i,
             ← (add-one i),
-            none-lacking (l.counts (i + 1) (omega (arith, slots))),
+            none-lacking (lacking.counts (i + 1) (omega (arith, slots))),
             r.counts (i + 1) (omega (arith, slots)),
           )
           refl
 
-  pub ends-end : {ends : List ℕ} {i : ℕ} → length classes ≤ i → EndsBefore ends i → (length ends ≡ places)
-      × ((shape : Shape) (w : ℕ) → LacksFrom shape.settle cs lacks → Row shape cs w rows at → Ends shape cs w ends)
-  ends-end e f = (
-    f.wide,
-    λ shape w l r. record {
-      counts = λ j p. f.counts shape w l r j (omega (arith, e, p, length-map classes decode));
-    },
-  )
+  pub ends-end : {ends : List ℕ} {i : ℕ} → length classes ≤ i → EndsBefore ends i → (w : ℕ) →
+      Row shape cs w row → Ends shape cs w ends
+  ends-end e f w r = record { counts = λ j p. f.counts w r j (omega (arith, e, p, length-map classes decode)) }

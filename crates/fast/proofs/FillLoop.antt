@@ -1,47 +1,38 @@
 -- Rows made one after another into the ring, and the counts that go up with them, for the loop of `fast::ring::fill`.
-use Prim.Native.Nat.{ℕ, zero, suc, ◌+◌, ◌%◌, ◌≤◌, ◌<◌, min}
+use Prim.Native.Nat.{ℕ, zero, suc, ◌+◌, ◌≤◌, ◌<◌, min}
 use native.Mathlib.Nat.{le_refl, eq-or-lt_of_le}
 use native.Mathlib.Numerals.{add-one}
 use native.Mathlib.Omega.{arith}
 use mathlib.Core.Bool.{Bool, true, false, cond}
-use mathlib.Core.List.{List}
-use mathlib.Core.Logic.{◌⊎◌, inl, inr, ⊎_elim}
+use mathlib.Core.List.{List, []}
+use mathlib.Core.Logic.{◌⊎◌, ⊎_elim}
 use mathlib.Core.Path.{◌≡◌, refl, sym, ap, subst, ◌∙◌}
 use borrow.Author.Tests.{leb-true, leb-false}
 use lib.Dec.{leb}
-use lib.ListN.{length, drop, get_or, length-map}
-use Rattle.rule.specs.ClassCodes.{decode, decode_all}
+use lib.ListN.{length, drop, get_or, set, length-set}
+use lib.Seq.{get_or-set_same, get_or-set_other}
+use Rattle.rule.specs.ClassCodes.{decode_all}
 use Rattle.rule.specs.Ranges.{Class}
 use Rattle.rule.specs.declared.Shape.{Shape}
-use Rattle.settings.specs.Refusals.{limit, places}
 use Rattle.settings.specs.declared.Settings.{Settings}
 use Rattle.requests.proofs.LeastCounts.{fewest-is}
 use Rattle.requests.specs.Best.{using_one, best}
 use Rattle.requests.specs.Solution.{sentinel}
 use Rattle.fast.proofs.Steady.{steady}
 use Rattle.fast.specs.Found.{or_found, Counted}
-use Rattle.fast.specs.Ring.{ring_rows, place_of, Ring}
-use Rattle.fast.specs.Rows.{Row, AlikeBut}
+use Rattle.fast.specs.Ring.{ring_rows, place_of, row_at, Ring}
+use Rattle.fast.specs.Rows.{Row}
 use Rattle.fast.specs.declared.ring.Filled.{Filled}
 use Rattle.fast.specs.declared.ring.Found.{Found}
+use Rattle.fast.specs.declared.ring.RowRing.{RowRing}
+use Rattle.fast.specs.declared.slots.Slots.{Slots}
 
 module _ (shape : Shape) (cs : List Class) where
-  -- a row that was not written over
-  pub row_stays : {w at q : ℕ} {rows rows' : List ℕ} → length cs ≤ limit → AlikeBut q (length cs) rows rows' →
-      (at + places ≤ q) ⊎ (q + places ≤ at) → Row shape cs w rows at → Row shape cs w rows' at
-  row_stays {at = at} {q = q} few alike apart r =
-      record {
-        counts = λ i l.
-            alike (at + i) (⊎_elim (λ e. inl (omega arith)) (λ e. inr (omega arith)) apart) ∙ r.counts i l;
-      }
-
   abbrev covers : (w : ℕ) → ℕ
   covers w = best sentinel shape cs w
 
-  pub row_first : {w at : ℕ} {rows : List ℕ} → Row shape cs w rows at → get_or rows at 0 ≡ covers w
-  row_first {at = at} {rows = rows} r =
-      let here : at + 0 ≡ at = omega arith in
-      ap (λ i. get_or rows i 0) (sym here) ∙ r.counts 0 (omega arith)
+  pub row_first : {w : ℕ} {row : List ℕ} → Row shape cs w row → get_or row 0 0 ≡ covers w
+  row_first r = r.counts 0 (omega arith)
 
   -- of the window counts up to v: the first with which at most c slots are covered, or v
   pub record FirstUpTo (c : ℕ) (found : Found) (v : ℕ) : Type 0 where
@@ -81,26 +72,25 @@ module _ (shape : Shape) (cs : List Class) where
             }
 
   -- the rows up to row v are in the ring, as far back as it goes
-  pub record UpTo (c : ℕ) (rows : List ℕ) (found : Found) (fewer v : ℕ) : Type 0 where
-    pub recent : (u : ℕ) → u ≤ v → v < u + ring_rows → Row shape cs u rows (place_of u)
+  pub record UpTo (c : ℕ) (rows : List (List ℕ)) (row : List ℕ) (found : Found) (fewer v : ℕ) : Type 0 where
+    pub wide : length rows ≡ ring_rows
+    pub recent : (u : ℕ) → u ≤ v → v < u + ring_rows → Row shape cs u (row_at rows u)
+    pub now : Row shape cs v row
     pub first : FirstUpTo c found v
     pub one_fewer : fewer ≡ using_one sentinel v covers
 
-  module _ {c : ℕ} where
-    pub fill_start : {rows : List ℕ} → Row shape cs 0 rows 0 →
-        UpTo c rows (record { windows = 0; thrift = get_or rows 0 0 }) sentinel 0
-    fill_start {rows} r =
-        record {
-          recent = λ u l m.
-              let none : u ≡ 0 = omega arith in
-              rw none r;
-          first = first-start (row_first r);
-          one_fewer = refl;
-        }
-
-    row_now : {rows : List ℕ} {found : Found} {fewer v : ℕ} → UpTo c rows found fewer v →
-        Row shape cs v rows (place_of v)
-    row_now {v = v} u = u.recent v (le_refl v) (omega arith)
+  pub fill_start : {c : ℕ} (rows : List (List ℕ)) {row : List ℕ} → length rows ≡ ring_rows → Row shape cs 0 row →
+      UpTo c (set rows 0 row) row (record { windows = 0; thrift = get_or row 0 0 }) sentinel 0
+  fill_start rows {row} wide r =
+      record {
+        wide = length-set rows 0 row ∙ wide;
+        recent = λ u l m.
+            let none : u ≡ 0 = omega arith in
+            rw (none, get_or-set_same rows 0 row [] (omega (arith, wide))) r;
+        now = r;
+        first = first-start (row_first r);
+        one_fewer = refl;
+      }
 
   -- row v repeats the one before it, and so do all rows after it
   pub record Repeats (v : ℕ) : Type 0 where
@@ -109,78 +99,46 @@ module _ (shape : Shape) (cs : List Class) where
     pub same : (u : ℕ) → before ≤ u → (i : ℕ) → i ≤ length cs →
         best sentinel shape (drop i cs) u ≡ best sentinel shape (drop i cs) before
 
-  pub repeats-of : {v p q : ℕ} {rows : List ℕ} → Row shape cs v rows p → Row shape cs (suc v) rows q →
-      ((i : ℕ) → i ≤ length cs → get_or rows (p + i) 0 ≡ get_or rows (q + i) 0) → Repeats (suc v)
+  pub repeats-of : {v : ℕ} {row next : List ℕ} → Row shape cs v row → Row shape cs (suc v) next → next ≡ row →
+      Repeats (suc v)
   repeats-of {v} before next same =
       record {
         before = v;
         is = refl;
-        same = steady sentinel shape cs v (λ i l. sym (next.counts i l) ∙ sym (same i l) ∙ before.counts i l);
+        same = steady sentinel shape cs v
+            (λ i l. sym (next.counts i l) ∙ ap (λ t. get_or t i 0) same ∙ before.counts i l);
       }
 
-  -- the places of two rows that are in the ring at once
-  apart : (u v : ℕ) → u < v → v < u + ring_rows → (place_of u + places ≤ place_of v) ⊎ (place_of v + places ≤ place_of u)
-  apart u v l m = by (leb (u % ring_rows) (v % ring_rows)) refl
-    where
-      by : (b : Bool) → leb (u % ring_rows) (v % ring_rows) ≡ b →
-          (place_of u + places ≤ place_of v) ⊎ (place_of v + places ≤ place_of u)
-      by true e = inl (omega (arith, leb-true (u % ring_rows) (v % ring_rows) e))
-      by false e = inr (omega (arith, leb-false (u % ring_rows) (v % ring_rows) e))
+  -- one turn of the loop: the next row goes into the ring
+  module _ {c : ℕ} {rows : List (List ℕ)} {row next : List ℕ} (found : Found) {fewer v : ℕ}
+      (so_far : UpTo c rows row found fewer v) (made : Row shape cs (suc v) next) where
+    fill_step : UpTo c (set rows (place_of (suc v)) next) next (or_found found (suc v) (get_or next 0 0) c)
+        (get_or row 0 0) (suc v)
+    fill_step =
+        record {
+          wide = length-set rows (place_of (suc v)) next ∙ so_far.wide;
+          recent = λ u l m.
+              ⊎_elim
+              (λ s. rw (s, get_or-set_same rows (place_of (suc v)) next [] (omega (arith, so_far.wide))) made)
+              (λ k. rw (get_or-set_other rows (place_of (suc v)) (place_of u) next [] (λ e. absurd (omega arith)))
+              (so_far.recent u (omega arith) (omega arith)))
+              (eq-or-lt_of_le l);
+          now = made;
+          first = first_step found v _ (row_first made) so_far.first;
+          one_fewer = row_first so_far.now;
+        }
 
-  module _ (few : length cs ≤ limit) {rows rows' : List ℕ} (v : ℕ)
-      (alike : AlikeBut (place_of (suc v)) (length cs) rows rows') where
-    stays : (u : ℕ) → u ≤ v → suc v < u + ring_rows → Row shape cs u rows (place_of u) → Row shape cs u rows' (place_of u)
-    stays u l m r = row_stays few alike (apart u (suc v) (omega arith) m) r
+    pub fill-turn : {q : ℕ} {found' : Found} → q ≡ place_of (v + 1) →
+        found' ≡ or_found found (v + 1) (get_or next 0 0) c →
+        UpTo c (set rows q next) next found' (get_or row 0 0) (v + 1)
+    fill-turn to e = rw (e, to, add-one v) fill_step
 
-    module _ {c : ℕ} (found : Found) {fewer : ℕ} (so_far : UpTo c rows found fewer v)
-        (next : Row shape cs (suc v) rows' (place_of (suc v))) where
-      fill_step : UpTo c rows' (or_found found (suc v) (get_or rows' (place_of (suc v)) 0) c) (get_or rows (place_of v) 0)
-          (suc v)
-      fill_step =
-          record {
-            recent = λ u l m.
-                ⊎_elim (λ s. rw s next) (λ k. stays u (omega arith) m (so_far.recent u (omega arith) (omega arith)))
-                (eq-or-lt_of_le l);
-            first = first_step found v _ (row_first next) so_far.first;
-            one_fewer = row_first (row_now so_far);
-          }
-
-      fill-repeats : ((i : ℕ) → i ≤ length cs → get_or rows' (place_of v + i) 0 ≡ get_or rows' (place_of (suc v) + i) 0) →
-          Repeats (suc v)
-      fill-repeats same = repeats-of (stays v (le_refl v) (omega arith) (row_now so_far)) next same
-
--- one turn of the loop: the row at q is made from that at p
-module _ (shape : Shape) (classes : List ℕ) (few : length classes ≤ limit) {rows rows' : List ℕ} (found : Found)
-    {fewer v p q c : ℕ} (at : p ≡ place_of v) (to : q ≡ place_of (v + 1)) (alike : AlikeBut q (length classes) rows rows')
-    (so_far : UpTo shape (decode_all classes) c rows found fewer v)
-    (makes : Row shape (decode_all classes) v rows p → Row shape (decode_all classes) (suc v) rows' q) where
-  abbrev cs : List Class
-  cs = decode_all classes
-
-  as_many : length cs ≡ length classes
-  as_many = length-map classes decode
-
-  alike-by-suc : AlikeBut (place_of (suc v)) (length cs) rows rows'
-  alike-by-suc = rw (as_many, ← (add-one v), ← to) alike
-
-  next : Row shape cs (suc v) rows' (place_of (suc v))
-  next = rw (to, add-one v) at (makes (rw at (row_now shape cs so_far)))
-
-  pub fill-turn : {found' : Found} → found' ≡ or_found found (v + 1) (get_or rows' q 0) c →
-      UpTo shape cs c rows' found' (get_or rows p 0) (v + 1)
-  fill-turn e =
-      rw (e, at, to, add-one v) (fill_step shape cs (omega (arith, as_many)) v alike-by-suc found so_far next)
-
-  pub fill-repeats-at : ((i : ℕ) → i ≤ length classes → get_or rows' (p + i) 0 ≡ get_or rows' (q + i) 0) →
-      Repeats shape cs (v + 1)
-  fill-repeats-at same =
-      rw (add-one v) (fill-repeats shape cs (omega (arith, as_many)) v alike-by-suc found so_far next λ i l.
-      rw (at, to, add-one v) at (same i (omega (arith, as_many))))
+    pub fill-repeats : next ≡ row → Repeats (v + 1)
+    fill-repeats same = rw (add-one v) (repeats-of so_far.now made same)
 
 -- the rows and counts at the end, where the last row is the one for w windows, or repeats
-module _ (s : Settings) (cs : List Class) {rows : List ℕ} {w : ℕ} (r : Filled)
-    (end : UpTo s.shape cs s.covered.most rows (record { windows = r.windows; thrift = r.thrift }) r.fewer
-    r.last) (within : r.last ≤ w) (ended : (r.last ≡ w) ⊎ Repeats s.shape cs r.last) where
+module _ (s : Settings) (cs : List Class) {rows : List (List ℕ)} {row : List ℕ} {w : ℕ} (r : Filled)
+    (end : UpTo s.shape cs s.covered.most rows row r.found r.fewer r.last) (within : r.last ≤ w) (ended : (r.last ≡ w) ⊎ Repeats s.shape cs r.last) where
   abbrev least : (i w : ℕ) → ℕ
   least i w = best sentinel s.shape (drop i cs) w
 
@@ -197,16 +155,16 @@ module _ (s : Settings) (cs : List Class) {rows : List ℕ} {w : ℕ} (r : Fille
       record {
         recent = end.recent;
         repeated = λ u l m.
-            record { counts = λ i e. (row_now s.shape cs end).counts i e ∙ sym (same-least u i l m e) };
+            record { counts = λ i e. (end.recent r.last (le_refl _) (omega arith)).counts i e ∙ sym (same-least u i l m e) };
       }
 
-  kept : best sentinel s.shape cs w ≤ s.covered.most → r.thrift ≤ s.covered.most
-  kept e = by (leb r.thrift s.covered.most) refl
+  kept : best sentinel s.shape cs w ≤ s.covered.most → r.found.thrift ≤ s.covered.most
+  kept e = by (leb r.found.thrift s.covered.most) refl
     where
-      by : (b : Bool) → leb r.thrift s.covered.most ≡ b → r.thrift ≤ s.covered.most
+      by : (b : Bool) → leb r.found.thrift s.covered.most ≡ b → r.found.thrift ≤ s.covered.most
       by true t = leb-true _ _ t
       by false t =
-          let over : s.covered.most < r.thrift = leb-false _ _ t in
+          let over : s.covered.most < r.found.thrift = leb-false _ _ t in
           let at_last = ap (least 0) (end.first.last over) in
           absurd (omega (arith, over, e, end.first.thrift, at_last, same-least w 0 within (le_refl w) (omega arith)))
 
@@ -225,7 +183,7 @@ module _ (s : Settings) (cs : List Class) {rows : List ℕ} {w : ℕ} (r : Fille
   fill-counted =
       record {
         windows = λ e.
-            fewest-is sentinel s.shape cs s.covered.most w 0 r.windows (omega arith)
+            fewest-is sentinel s.shape cs s.covered.most w 0 r.found.windows (omega arith)
             (omega (arith, end.first.within)) (λ u _ l. end.first.too_few u l)
             (λ l. omega (arith, kept e, end.first.thrift));
         thrift = end.first.thrift;
@@ -233,11 +191,11 @@ module _ (s : Settings) (cs : List Class) {rows : List ℕ} {w : ℕ} (r : Fille
       }
 
 -- the row for u windows is in the ring
-pub ring-row : {shape : Shape} {cs : List Class} {top last : ℕ} {rows : List ℕ} → Ring shape cs top rows last →
-    (u : ℕ) → u ≤ top → last < u + ring_rows → Row shape cs u rows (place_of (min u last))
+pub ring-row : {shape : Shape} {cs : List Class} {top last : ℕ} {rows : List (List ℕ)} → Ring shape cs top rows last →
+    (u : ℕ) → u ≤ top → last < u + ring_rows → Row shape cs u (row_at rows (min u last))
 ring-row {shape} {cs} {last = last} {rows} g u e l = by (leb u last) refl
   where
-    by : (b : Bool) → leb u last ≡ b → Row shape cs u rows (place_of (min u last))
+    by : (b : Bool) → leb u last ≡ b → Row shape cs u (row_at rows (min u last))
     by true t =
         let m : min u last ≡ u = omega (arith, leb-true u last t) in
         rw m (g.recent u (leb-true u last t) l)
@@ -245,12 +203,14 @@ ring-row {shape} {cs} {last = last} {rows} g u e l = by (leb u last) refl
         let m : min u last ≡ last = omega (arith, leb-false u last t) in
         rw m (g.repeated u (omega (arith, leb-false u last t)) e)
 
--- with fewer windows left
-pub ring-fewer : {shape : Shape} {cs : List Class} {top top' last : ℕ} {rows : List ℕ} → top' ≤ top →
-    Ring shape cs top rows last → Ring shape cs top' rows last
-ring-fewer e g = record { recent = g.recent; repeated = λ u l m. g.repeated u l (omega arith) }
+-- the row for as many windows as are left, where the ring has it
+pub ring-next : (ring : RowRing) (slots : Slots) {row : List ℕ} → ring.slots.now ≡ slots →
+    ring.last < ring.left + ring_rows → row ≡ row_at ring.rows (min ring.left ring.last) →
+    Row slots.settings.shape (decode_all slots.classes.now) ring.left row
+ring-next ring slots is recent here =
+    rw (← is, here) (ring-row ring.made ring.left (le_refl ring.left) recent)
 
 -- the last row is the one for the most windows
-pub ring-last : {shape : Shape} {cs : List Class} {top : ℕ} {rows : List ℕ} {last at : ℕ} →
-    Ring shape cs top rows last → last ≤ top → at ≡ place_of last → Row shape cs top rows at
+pub ring-last : {shape : Shape} {cs : List Class} {top : ℕ} {rows : List (List ℕ)} {last at : ℕ} →
+    Ring shape cs top rows last → last ≤ top → at ≡ place_of last → Row shape cs top (get_or rows at [])
 ring-last {top = top} g e is = rw is (g.repeated top e (le_refl top))

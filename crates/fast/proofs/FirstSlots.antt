@@ -7,23 +7,16 @@ use mathlib.Core.Path.{◌≡◌, refl, sym, ap, ◌∙◌}
 use borrow.Author.Tests.{leb-true, leb-false}
 use lib.Dec.{leb}
 use lib.ListN.{length, take}
-use lib.Seq.{take_all, length-take-le}
+use lib.Seq.{take_all}
 use Rattle.settings.specs.Refusals.{limit}
 
-module _ (l : List ℕ) (n : ℕ) (is : n ≡ min (length l) limit) where
-  pub counted : n ≡ length (take n l)
-  counted = sym (length-take-le n l (omega (arith, is)))
-
-  pub short : length (take n l) ≤ limit
-  short = omega (arith, is, counted)
-
-  pub first-slots : take n l ≡ take limit l
-  first-slots = by (leb (length l) limit) refl
-    where
-      by : (b : Bool) → leb (length l) limit ≡ b → take n l ≡ take limit l
-      by true e =
-          let few : length l ≤ limit = leb-true _ _ e in
-          take_all n l (omega (arith, is)) ∙ sym (take_all limit l few)
-      by false e =
-          let full : n ≡ limit = omega (arith, is, leb-false (length l) limit e) in
-          ap (λ n. take n l) full
+pub first-slots : (l : List ℕ) (n : ℕ) → n ≡ min (length l) limit → take n l ≡ take limit l
+first-slots l n is = by (leb (length l) limit) refl
+  where
+    by : (b : Bool) → leb (length l) limit ≡ b → take n l ≡ take limit l
+    by true e =
+        let few : length l ≤ limit = leb-true _ _ e in
+        take_all n l (omega (arith, is)) ∙ sym (take_all limit l few)
+    by false e =
+        let full : n ≡ limit = omega (arith, is, leb-false (length l) limit e) in
+        ap (λ n. take n l) full

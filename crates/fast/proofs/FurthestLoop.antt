@@ -43,9 +43,9 @@ module _ (ends : List ℕ) (x reach room : ℕ) where
           (known ≤ r) × (known < r → (x < r) × (r ≤ x + reach) × FitsInto r)
           × ((e : ℕ) → x < e → e ≤ x + reach → FitsInto e → e ≤ r)
 
-      pub furthest-known : ((e : ℕ) → x < e → e ≤ x + k → e ≤ known) → Furthest known
-      furthest-known all =
-          (le_refl _, λ l. absurd (omega arith), λ e order reaches fits. all e order (m.nearer e order reaches fits))
+      pub furthest-known : ((e : ℕ) → x < e → e ≤ x + k → e ≤ known) → (e : ℕ) → x < e → e ≤ x + reach →
+          FitsInto e → e ≤ known
+      furthest-known all e order reaches fits = all e order (m.nearer e order reaches fits)
 
       pub furthest-found : 0 < k → known < x + k → min sentinel (k + get_or ends (x + k - 1) 0) ≤ room →
           Furthest (x + k)

@@ -13,12 +13,12 @@ mod NothingLost
 mod ReachLoop
 mod RowFrom
 mod RowLoop
-mod SameRowLoop
 mod Serves
 mod Solving
 mod SpanLoop
 mod SpareReach
 mod Steady
 mod SweepLoop
+mod SweepTurns
 mod Swept
 mod TurnLoop

@@ -13,7 +13,7 @@ use Rattle.settings.specs.declared.Settings.{Settings}
 use Rattle.requests.proofs.BestIsLeast.{best-met, best-le-covered}
 use Rattle.requests.proofs.SettledPlans.{settled-under, settled-over}
 use Rattle.requests.specs.Best.{Fits, using_one, best}
-use Rattle.requests.specs.Promise.{nothing}
+use Rattle.requests.specs.declared.Loss.TheVariants.{Nothing as nothing}
 use Rattle.requests.specs.Solution.{sentinel, possible, loss_of, loss}
 
 module _ (T : ℕ) (shape : Shape) (cs : List Class) (i v c : ℕ) where

@@ -21,6 +21,7 @@ use Rattle.fast.proofs.SpanLoop.{first_counted}
 use Rattle.fast.specs.Rows.{Reaches, Bounded}
 use Rattle.fast.specs.Spans.{Covers}
 use Rattle.fast.specs.declared.reach.Span.{Span}
+use Rattle.fast.specs.declared.slots.Slots.{Slots}
 
 module _ (most h : ℕ) (classes : List ℕ) where
   abbrev cs : List Class
@@ -67,9 +68,9 @@ module _ (most h : ℕ) (classes : List ℕ) where
   reaches-first {x = x} span₁ g l covers = first_counted (rw (from-slot classes x l) at covers)
 
   pub reaches_end : {reach : List ℕ} {span : Span} {x : ℕ} (len : ℕ) → most ≡ suc (len - 1) → length classes ≤ x →
-      ReachesBefore reach span x → (length reach ≡ places) × Reaches len h cs reach
+      ReachesBefore reach span x → Reaches len h cs reach
   unfolding fit
-  reaches_end {reach} len is l g = (g.wide, record { counts = λ i e. rw (← is) (by i (eq-or-lt_of_le e)) })
+  reaches_end {reach} len is l g = record { counts = λ i e. rw (← is) (by i (eq-or-lt_of_le e)) }
     where
       slots : length cs ≡ length classes
       slots = length-map classes decode
@@ -91,3 +92,10 @@ bounded {len} {h} {cs} r =
           let next = r.counts (i + 1) (omega arith) ∙ ap (λ k. fit (drop k cs) (suc (len - 1)) h) (add-one i) in
           omega (arith, here, next, fit-later (get_or cs i under_only) (drop (suc i) cs) (suc (len - 1)) h);
     }
+
+-- the reaches end within the slots
+pub within : (slots : Slots) (x : ℕ) → x ≤ length slots.classes.now →
+    x + get_or slots.reach x 0 ≤ length slots.classes.now
+within slots x l =
+    let as_many = length-map slots.classes.now decode in
+    omega (arith, as_many, (bounded slots.reaches).within x (omega (arith, as_many)))

@@ -14,7 +14,7 @@ use Rattle.fast.proofs.Nearest.{nearest-cons, nearest-snoc, nearest-split}
 use Rattle.fast.specs.Minima.{nearest, Minima, Serves, Stepped, least_kept}
 use Rattle.fast.specs.declared.row.Near.{Near}
 
-pub minima-none : (vs minima : List ℕ) → 0 < length minima → Minima vs 0 (set minima 0 sentinel)
+minima-none : (vs minima : List ℕ) → 0 < length minima → Minima vs 0 (set minima 0 sentinel)
 minima-none vs minima e =
     record {
       least = λ k l.
@@ -51,9 +51,8 @@ module _ (ends : List ℕ) (x : ℕ) where
           rw (is, m.filled.least k (le_refl k), ← (get_or-drop x ends k 0), ap (λ n. take n (drop x ends)) (add-one k))
           (omega (arith, last))
 
-  pub minima-end : {minima : List ℕ} {k top : ℕ} → top ≤ k → MinimaTo minima k →
-      (length minima ≡ places) × Minima (drop x ends) top minima
-  minima-end e m = (m.wide, record { least = λ j l. m.filled.least j (omega arith) })
+  pub minima-end : {minima : List ℕ} {k top : ℕ} → top ≤ k → MinimaTo minima k → Minima (drop x ends) top minima
+  minima-end e m = record { least = λ j l. m.filled.least j (omega arith) }
 
 one_more : {f g : ℕ} (d top : ℕ) → f ≤ suc g → g ≤ d + top → f ≤ d + 1 + top
 one_more d top e l = omega arith

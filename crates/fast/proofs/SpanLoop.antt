@@ -45,10 +45,6 @@ module _ (len h : ℕ) (classes : List ℕ) (x : ℕ) where
   abbrev from : List Class
   from = drop x (decode_all classes)
 
-  -- as many slots as a window can cover
-  abbrev Whole : (k z : ℕ) → Type 0
-  Whole k z = Covers len h from (record { slots = k; bridges = z }) × (k ≡ fit from len h)
-
   -- a span that goes from slot x up to slot i
   pub record SpanTo (k z i : ℕ) : Type 0 where
     pub place : i ≡ x + k
@@ -76,19 +72,20 @@ module _ (len h : ℕ) (classes : List ℕ) (x : ℕ) where
           };
         }
 
-    span-end : (suc k ≤ len → suc k ≤ length from → h < lows (take (suc k) from)) → Whole k z
+    -- as many slots as a window can cover
+    span-end : (suc k ≤ len → suc k ≤ length from → h < lows (take (suc k) from)) → k ≡ fit from len h
     span-end stop =
         let c = s.covers in
-        (c, sym (fit_is from k len h c.within (omega (arith, c.counted, c.enough)) c.inside stop))
+        sym (fit_is from k len h c.within (omega (arith, c.counted, c.enough)) c.inside stop)
 
-    pub span-full : k ≡ len → Whole k z
+    pub span-full : k ≡ len → k ≡ fit from len h
     span-full e = span-end (λ p q. absurd (omega arith))
 
     pub span-stopped : (more : ℕ) → i < length classes → more ≡ low (decode (get_or classes i 0)) → h - z < more →
-        Whole k z
+        k ≡ fit from len h
     span-stopped more l is f = span-end (λ p q. omega (arith, is, f, next_low l))
 
-    pub span_last : length classes ≤ i → Whole k z
+    pub span_last : length classes ≤ i → k ≡ fit from len h
     span_last l =
         span-end λ p q.
         absurd (omega (arith, q, l, s.place, length-drop x (decode_all classes), length-map classes decode))

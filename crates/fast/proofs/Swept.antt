@@ -7,8 +7,8 @@ use mathlib.Core.Bool.{Bool, true, false, cond, ◌||◌}
 use mathlib.Core.List.{List, reverse}
 use mathlib.Core.Logic.{◌↔◌, ◌⊎◌, inl, inr, ⊎_elim}
 use mathlib.Core.Path.{◌≡◌, refl, ap, subst, ◌∙◌}
-use borrow.Author.Tests.{le-leb, leb-true, leb-false, lt-ltb, ltb-true, eq-eqb, eqb-true}
-use lib.Dec.{leb, ltb, eqb}
+use borrow.Author.Tests.{le-leb, leb-true, leb-false, lt-ltb, ltb-true}
+use lib.Dec.{leb, ltb}
 use lib.ListN.{length, drop, get_or, set, length-reverse}
 use Rattle.facts.proofs.Lists.{reverse-at}
 use Rattle.facts.proofs.Tests.{bool-ext, or-true}
@@ -52,13 +52,13 @@ module _ (shape : Shape) (cs : List Class) (w n : ℕ) (small : n < sentinel) wh
     pub most : (b x e : ℕ) → b < a → window g b x e → e ≤ get_or far x 0
 
   -- the gaps with at most a windows before them
-  pub record GapsFound (gaps : List ℕ) (a : ℕ) : Type 0 where
-    pub met : (i : ℕ) → i < length cs → get_or gaps i 0 ≡ 1 → (a : ℕ) × GoodGap sentinel shape cs w n a i
-    pub most : (b i : ℕ) → b ≤ a → GoodGap sentinel shape cs w n b i → get_or gaps i 0 ≡ 1
+  pub record GapsFound (gaps : List Bool) (a : ℕ) : Type 0 where
+    pub met : (i : ℕ) → i < length cs → get_or gaps i false ≡ true → (a : ℕ) × GoodGap sentinel shape cs w n a i
+    pub most : (b i : ℕ) → b ≤ a → GoodGap sentinel shape cs w n b i → get_or gaps i false ≡ true
 
   -- with a windows before a window, and b after it
-  module _ (a b : ℕ) (split : w ≡ a + suc b) {starts ends rows : List ℕ} {at : ℕ} (s : Ends shape (reverse cs) a starts)
-      (t : Ends shape cs b ends) (r : Row shape cs (suc b) rows at) where
+  module _ (a b : ℕ) (split : w ≡ a + suc b) {starts ends row : List ℕ} (s : Ends shape (reverse cs) a starts)
+      (t : Ends shape cs b ends) (r : Row shape cs (suc b) row) where
     starts-at : (x : ℕ) → x < length cs → get_or starts (length cs - suc x) 0
         ≡ cond (allows (get_or cs x under_only) 2)
         (cond (clearable shape.settle (before cs x)) (least_before sentinel shape cs x a) sentinel) sentinel
@@ -110,14 +110,14 @@ module _ (shape : Shape) (cs : List Class) (w n : ℕ) (small : n < sentinel) wh
           }
 
       -- where a good window begins, the counts of both sides fit together
-      seam : {x e : ℕ} → x < length cs → window g a x e → get_or starts (length cs - suc x) 0 + get_or rows (at + x) 0 ≤ n
+      seam : {x e : ℕ} → x < length cs → window g a x e → get_or starts (length cs - suc x) 0 + get_or row x 0 ≤ n
       seam {x} l k =
           let rest : w - a ≡ suc b = omega arith in
           let start = starts-at x l ∙ twice_of k.begins k.clear_before in
           rw (start, r.counts x (omega arith)) (rw rest at (good-seam sentinel shape k small))
 
       pub windows-step : {far far' : List ℕ} →
-          ((x : ℕ) → x < length cs → Further reach starts ends rows at (length cs) n x (get_or far x 0) (get_or far' x 0)) →
+          ((x : ℕ) → x < length cs → Further reach starts ends row (length cs) n x (get_or far x 0) (get_or far' x 0)) →
           WindowsFound g far a → WindowsFound g far' (suc a)
       windows-step {far} {far'} further f = record { met = met; most = most }
         where
@@ -140,8 +140,8 @@ module _ (shape : Shape) (cs : List Class) (w n : ℕ) (small : n < sentinel) wh
               (λ fewer. omega (arith, f.most b x e fewer good, (further x l).no_nearer)) (eq-or-lt_of_le at_most)
 
   -- with a windows before a gap, and b after it
-  module _ (a b : ℕ) (split : w ≡ a + b) {turned lacks turned_lacks free rows : List ℕ} {f at : ℕ}
-      (r : Row shape (reverse cs) a turned f) (t : Row shape cs b rows at)
+  module _ (a b : ℕ) (split : w ≡ a + b) {turned lacks turned_lacks row : List ℕ} {free : List Bool}
+      (r : Row shape (reverse cs) a turned) (t : Row shape cs b row)
       (p : LacksFrom shape.settle (reverse cs) turned_lacks) (q : LacksFrom shape.settle cs lacks)
       (frees : FreeSlots shape.settle cs turned_lacks lacks free) where
     clear-iff : (i : ℕ) → i < length cs → ClearRound shape.settle (before cs i) (drop (suc i) cs)
@@ -151,7 +151,7 @@ module _ (shape : Shape) (cs : List Class) (w n : ℕ) (small : n < sentinel) wh
         (clear-round-iff (p.counts (length cs - i) (omega (arith, length-reverse cs)))
         (q.counts (i + 1) (omega arith)))
 
-    gap→good : {i : ℕ} → i < length cs → GapAt free turned rows f (length cs) at n i → GoodGap sentinel shape cs w n a i
+    gap→good : {i : ℕ} → i < length cs → GapAt free turned row (length cs) n i → GoodGap sentinel shape cs w n a i
     gap→good {i} l (is_free, short) =
         let (can, lacking) = (frees.exactly i l).0 is_free in
         let rest : w - a ≡ b = omega arith in
@@ -165,7 +165,7 @@ module _ (shape : Shape) (cs : List Class) (w n : ℕ) (small : n < sentinel) wh
               at short);
         }
 
-    good→gap : {i : ℕ} → GoodGap sentinel shape cs w n a i → GapAt free turned rows f (length cs) at n i
+    good→gap : {i : ℕ} → GoodGap sentinel shape cs w n a i → GapAt free turned row (length cs) n i
     good→gap {i} k =
         let l = k.inside in
         let rest : w - a ≡ b = omega arith in (
@@ -174,10 +174,10 @@ module _ (shape : Shape) (cs : List Class) (w n : ℕ) (small : n < sentinel) wh
               (rw rest at k.short),
         )
 
-    module _ (gaps gaps' : List ℕ) (found : (i : ℕ) → i < length cs →
-        (get_or gaps' i 0 ≡ 1) ↔ ((get_or gaps i 0 ≡ 1) ⊎ GapAt free turned rows f (length cs) at n i))
-        (earlier-met : (i : ℕ) → i < length cs → get_or gaps i 0 ≡ 1 → (a : ℕ) × GoodGap sentinel shape cs w n a i)
-        (earlier-most : (c i : ℕ) → c < a → GoodGap sentinel shape cs w n c i → get_or gaps i 0 ≡ 1) where
+    module _ (gaps gaps' : List Bool) (found : (i : ℕ) → i < length cs →
+        (get_or gaps' i false ≡ true) ↔ ((get_or gaps i false ≡ true) ⊎ GapAt free turned row (length cs) n i))
+        (earlier-met : (i : ℕ) → i < length cs → get_or gaps i false ≡ true → (a : ℕ) × GoodGap sentinel shape cs w n a i)
+        (earlier-most : (c i : ℕ) → c < a → GoodGap sentinel shape cs w n c i → get_or gaps i false ≡ true) where
       pub gaps-step : GapsFound gaps' a
       gaps-step =
           record {
@@ -209,13 +209,13 @@ module _ (shape : Shape) (cs : List Class) (w n : ℕ) (small : n < sentinel) wh
                 (before_same x b (omega (arith, leb-true a b t))) good)
             by false t = f.most b x e (leb-false a b t) good
 
-    pub gaps-steady : {gaps : List ℕ} → GapsFound gaps a → GapsFound gaps w
+    pub gaps-steady : {gaps : List Bool} → GapsFound gaps a → GapsFound gaps w
     gaps-steady {gaps} f = record { met = f.met; most = most }
       where
-        most : (b i : ℕ) → b ≤ w → GoodGap sentinel shape cs w n b i → get_or gaps i 0 ≡ 1
+        most : (b i : ℕ) → b ≤ w → GoodGap sentinel shape cs w n b i → get_or gaps i false ≡ true
         most b i l good = by (leb a b) refl
           where
-            by : (t : Bool) → leb a b ≡ t → get_or gaps i 0 ≡ 1
+            by : (t : Bool) → leb a b ≡ t → get_or gaps i false ≡ true
             by true t =
                 f.most rep.before i (omega (arith, rep.is))
                 (gap-earlier sentinel shape (omega (arith, leb-true a b t, rep.is))
@@ -238,7 +238,7 @@ module _ (shape : Shape) (cs : List Class) (w n : ℕ) (small : n < sentinel) wh
         (λ e. lt-ltb _ _ (rw (here, all) at (to (left→ (leb-true _ _ e)))))
         (λ e. le-leb _ _ (left← (from (rw (here, all) (ltb-true _ _ e)))))
 
-    pub under-by-gaps : {bridged gaps : List ℕ} → WindowsFound 1 bridged w → GapsFound gaps w →
+    pub under-by-gaps : {bridged : List ℕ} {gaps : List Bool} → WindowsFound 1 bridged w → GapsFound gaps w →
         leb (best sentinel shape (set cs i under_only) w) n ≡ under_stays gaps bridged i
     under-by-gaps {bridged} {gaps} f g =
         let before : suc i - 1 ≡ i = omega arith in
@@ -246,14 +246,14 @@ module _ (shape : Shape) (cs : List Class) (w n : ℕ) (small : n < sentinel) wh
         let (left→, left←) = under_left sentinel shape {w = w} {n = n} {i = i} cs small there slot in
         bool-ext _ _
         (λ e.
-        ⊎_elim (λ p. rw (eq-eqb (get_or gaps i 0) 1 (g.most p.a i p.good.few p.good)) refl)
-        (λ p. or-true (eqb (get_or gaps i 0) 1) (lt-ltb _ _ (rw before at (to p)))) (left→ (leb-true _ _ e)))
-        (λ e. le-leb _ _ (left← (by (λ l. from (rw before l)) (eqb (get_or gaps i 0) 1) refl e)))
+        ⊎_elim (λ p. rw (g.most p.a i p.good.few p.good) refl)
+        (λ p. or-true (get_or gaps i false) (lt-ltb _ _ (rw before at (to p)))) (left→ (leb-true _ _ e)))
+        (λ e. le-leb _ _ (left← (by (λ l. from (rw before l)) (get_or gaps i false) refl e)))
       where
         by : (i + 1 < highest (λ x. get_or bridged x 0) i → InWindow sentinel shape cs w n 1 i) →
-            (b : Bool) → eqb (get_or gaps i 0) 1 ≡ b → (b || ltb (i + 1) (highest (λ x. get_or bridged x 0) i)) ≡ true →
+            (b : Bool) → get_or gaps i false ≡ b → (b || ltb (i + 1) (highest (λ x. get_or bridged x 0) i)) ≡ true →
             InGap sentinel shape cs w n i ⊎ InWindow sentinel shape cs w n 1 i
-        by from true t e = let (a, good) = g.met i there (eqb-true _ _ t) in inl (record { a = a; good = good })
+        by from true t e = let (a, good) = g.met i there t in inl (record { a = a; good = good })
         by from false t e = inr (from (ltb-true _ _ e))
 
 -- what a slot loses, by which parts stay where it is open

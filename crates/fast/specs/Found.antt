@@ -16,6 +16,6 @@ or_found found v count most = cond (leb found.thrift most) found (record { windo
 -- covered count with so many; and the least covered count with one window fewer, or the sentinel where w is 0.
 pub record Counted (s : Settings) (cs : List Class) (w : ℕ) (r : Filled) : Type 0 where
   pub windows : best sentinel s.shape cs w ≤ s.covered.most →
-      r.windows ≡ fewest sentinel s.shape cs s.covered.most 0 w
-  pub thrift : r.thrift ≡ best sentinel s.shape cs r.windows
+      r.found.windows ≡ fewest sentinel s.shape cs s.covered.most 0 w
+  pub thrift : r.found.thrift ≡ best sentinel s.shape cs r.found.windows
   pub fewer : r.fewer ≡ using_one sentinel w (best sentinel s.shape cs)

@@ -1,4 +1,5 @@
 pub mod Found
+pub mod Lost
 pub mod Minima
 pub mod Pen
 pub mod Ring

@@ -1,5 +1,5 @@
 -- What is promised of rows and of what they are made from, in the words of `best`.
-use Rattle.std.specs.Prelude.{ℕ, suc, ◌+◌, ◌-◌, ◌≤◌, ◌<◌, cond, List, ◌⊎◌, ◌≡◌, length, drop, get_or}
+use Rattle.std.specs.Prelude.{ℕ, suc, ◌+◌, ◌-◌, ◌≤◌, ◌<◌, cond, List, ◌≡◌, length, drop, get_or}
 use Rattle.rule.specs.Ranges.{Class, under_only, allows}
 use Rattle.rule.specs.declared.Shape.{Shape}
 use Rattle.requests.specs.Best.{best, best_after}
@@ -7,14 +7,10 @@ use Rattle.requests.specs.Solution.{sentinel}
 use Rattle.sides.specs.Lacks.{Lacks}
 use Rattle.sides.specs.Reach.{fit}
 
--- A row of least counts, from place `at` of the list on: for each slot the least covered count of the slots from there
--- on, with at most w windows. Past the last slot that is 0.
-pub record Row (shape : Shape) (cs : List Class) (w : ℕ) (rows : List ℕ) (at : ℕ) : Type 0 where
-  pub counts : (i : ℕ) → i ≤ length cs → get_or rows (at + i) 0 ≡ best sentinel shape (drop i cs) w
-
--- two lists are alike but for places `at` to `at + n`
-abbrev pub AlikeBut : (at n : ℕ) → List ℕ → List ℕ → Type 0
-AlikeBut at n xs ys = (j : ℕ) → (j < at) ⊎ (at + n < j) → get_or ys j 0 ≡ get_or xs j 0
+-- A row of least counts: for each slot the least covered count of the slots from there on, with at most w windows. Past
+-- the last slot that is 0.
+pub record Row (shape : Shape) (cs : List Class) (w : ℕ) (row : List ℕ) : Type 0 where
+  pub counts : (i : ℕ) → i ≤ length cs → get_or row i 0 ≡ best sentinel shape (drop i cs) w
 
 -- what comes after a window that ends with slot i, where at most w windows are left then
 abbrev pub end_at : Shape → List Class → (i w : ℕ) → ℕ

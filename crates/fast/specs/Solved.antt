@@ -7,7 +7,7 @@ use Rattle.settings.specs.Refusals.{limit, places}
 use Rattle.settings.specs.declared.Settings.{Settings}
 use Rattle.requests.specs.Best.{best_after}
 use Rattle.requests.specs.Solution.{sentinel, least_covered_count, least_window_count, thrift_count, drawn_plan, loss}
-use Rattle.fast.specs.Sweep.{loss_of_code}
+use Rattle.fast.specs.Lost.{lost_at}
 use Rattle.fast.specs.declared.Solved.{Solved}
 
 -- The least covered count, always; where it keeps the covered maximum, the least window count, the thrift and the first
@@ -21,7 +21,7 @@ pub record Solves (s : Settings) (cs : List Class) (before after : List ℕ) (r 
   pub thrift : r.covered ≤ s.covered.most → r.thrift ≡ thrift_count s cs
   pub drawn : r.covered ≤ s.covered.most → after ≡ sets before 0 (drawn_plan s cs)
   pub lost : r.covered ≤ s.covered.most → s.covered.most < sentinel → (i : ℕ) → i < length cs →
-      loss_of_code (get_or r.lost i 0) ≡ loss s cs i
+      lost_at r.lost i ≡ loss s cs i
 
 -- What comes after a window, where at most w windows are left: for each slot the least covered count of the slots from
 -- there on, with the slots owed first.

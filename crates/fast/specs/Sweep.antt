@@ -1,7 +1,8 @@
 -- What is promised of the sweep: of the windows and gaps that fit between counts of both sides, and of what slots lose.
-use Rattle.std.specs.Prelude.{ℕ, suc, ◌+◌, ◌-◌, ◌≤◌, ◌<◌, Bool, true, cond, ◌||◌, List, ◌↔◌, ◌≡◌, eqb, ltb, length, drop, get_or}
+use Rattle.std.specs.Prelude.{ℕ, suc, ◌+◌, ◌-◌, ◌≤◌, ◌<◌, Bool, true, false, cond, ◌||◌, List, ◌↔◌, ◌≡◌, ltb, length, drop, get_or}
 use Rattle.rule.specs.Ranges.{Class, under_only, over_only, either, allows}
-use Rattle.requests.specs.Promise.{Loss, nothing, under_part, over_part}
+use Rattle.requests.specs.declared.Loss.{Loss}
+use Rattle.requests.specs.declared.Loss.TheVariants.{Nothing as nothing, Under as under_part, Over as over_part}
 use Rattle.rule.specs.declared.Shape.{Shape}
 use Rattle.sides.specs.Far.{highest}
 use Rattle.sides.specs.Reach.{reach}
@@ -21,26 +22,22 @@ pub record Fits (reach starts ends : List ℕ) (n most x e : ℕ) : Type 0 where
 
 -- `after` is the furthest end of a window from slot x on that fits, as far as it is further than `before`. No window is
 -- looked for where the counts of both sides do not fit together
-pub record Further (reach starts ends rows : List ℕ) (at n most x : ℕ) (before after : ℕ) : Type 0 where
+pub record Further (reach starts ends row : List ℕ) (n most x : ℕ) (before after : ℕ) : Type 0 where
   pub no_nearer : before ≤ after
   pub met : before < after → Fits reach starts ends n most x after
-  pub furthest : (e : ℕ) → get_or starts (n - suc x) 0 + get_or rows (at + x) 0 ≤ most →
+  pub furthest : (e : ℕ) → get_or starts (n - suc x) 0 + get_or row x 0 ≤ most →
       Fits reach starts ends n most x e → e ≤ after
 
--- 1 exactly for each slot that can be left uncovered, between what is lacking before it (from the last slot back) and
+-- true exactly for each slot that can be left uncovered, between what is lacking before it (from the last slot back) and
 -- after it
-pub record FreeSlots (settle : ℕ) (cs : List Class) (turned lacks free : List ℕ) : Type 0 where
-  pub exactly : (i : ℕ) → i < length cs → (get_or free i 0 ≡ 1) ↔ ((allows (get_or cs i under_only) 0 ≡ true)
+pub record FreeSlots (settle : ℕ) (cs : List Class) (turned lacks : List ℕ) (free : List Bool) : Type 0 where
+  pub exactly : (i : ℕ) → i < length cs → (get_or free i false ≡ true) ↔ ((allows (get_or cs i under_only) 0 ≡ true)
       × (get_or turned (length cs - i) 0 + get_or lacks (i + 1) 0 ≤ suc settle))
 
 -- slot i is free, and the counts of both sides fit together there
-abbrev pub GapAt : (free before rows : List ℕ) (f n at most i : ℕ) → Type 0
-GapAt free before rows f n at most i =
-    (get_or free i 0 ≡ 1) × (get_or before (f + (n - i)) 0 + get_or rows (at + i) 0 ≤ most)
-
--- what is known of each slot at first: it counts as a gap where no slot loses its under part
-abbrev pub known_gap : (whole : Bool) → ℕ
-known_gap whole = cond whole 1 0
+abbrev pub GapAt : (free : List Bool) (before row : List ℕ) (n most i : ℕ) → Type 0
+GapAt free before row n most i =
+    (get_or free i false ≡ true) × (get_or before (n - i) 0 + get_or row i 0 ≤ most)
 
 -- what a slot loses, by which parts stay
 abbrev pub loss_by : Class → (under over : Bool) → Loss
@@ -48,12 +45,8 @@ loss_by under_only under over = nothing
 loss_by over_only under over = nothing
 loss_by either under over = cond under (cond over nothing over_part) under_part
 
--- the byte of a loss
-abbrev pub loss_of_code : ℕ → Loss
-loss_of_code m = cond (eqb m 1) under_part (cond (eqb m 2) over_part nothing)
-
-abbrev pub under_stays : (gaps bridged : List ℕ) (i : ℕ) → Bool
-under_stays gaps bridged i = eqb (get_or gaps i 0) 1 || ltb (i + 1) (highest (λ x. get_or bridged x 0) i)
+abbrev pub under_stays : (gaps : List Bool) (bridged : List ℕ) (i : ℕ) → Bool
+under_stays gaps bridged i = get_or gaps i false || ltb (i + 1) (highest (λ x. get_or bridged x 0) i)
 
 abbrev pub over_stays : (far : List ℕ) (i : ℕ) → Bool
 over_stays far i = ltb i (highest (λ x. get_or far x 0) (suc i))

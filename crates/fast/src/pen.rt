@@ -1,18 +1,14 @@
 // The first plan, drawn from the first slot on.
-ghost use Rattle.std.specs.Prelude.{cond, ◌⊎◌, ◌≡◌, eqb, length, ℕ, ◌+◌, ◌-◌, ◌≤◌, ◌<◌, min};
+ghost use Rattle.std.specs.Prelude.{◌⊎◌, ◌≡◌, eqb, length, ℕ, ◌+◌, ◌-◌, ◌≤◌, ◌<◌, min};
 ghost use Rattle.rule.specs.ClassCodes.{decode_all};
-ghost use Rattle.rule.specs.declared.Shape.{Shape};
-ghost use Rattle.settings.specs.Refusals.{limit, places};
 ghost use Rattle.requests.specs.Drawing.{left_of};
-ghost use Rattle.requests.specs.Solution.{sentinel};
 ghost use Rattle.fast.specs.Pen.{drawn_on};
-ghost use Rattle.fast.specs.Ring.{ring_places, Ring};
-ghost use Rattle.fast.specs.Rows.{Row, Reaches, LacksFrom};
+ghost use Rattle.fast.specs.Rows.{Row};
 
-use crate::NO_PLAN;
-use crate::ring::{RING, one_fewer, place_of, ready};
-use marks::{close_window, left_of, next_mark};
-use settings::{PLACES, Settings};
+use crate::ring::RowRing;
+use crate::slots::Slots;
+use marks::{close_window, left_of, next_mark, unless_lacking};
+use settings::PLACES;
 
 // Where a plan is drawn on: the next slot, the mark before it, and how many slots may still be covered.
 #[derive(Clone, Copy)]
@@ -22,97 +18,50 @@ pub struct Pen {
     pub covered: u16,
 }
 
-fn common_slots(a: usize, b: usize) -> usize
-    ensures { result ≡ min a b }
+// Draws on until a window opens, or to the end. The row is for as many windows as are left.
+pub(crate) fn draw_on(slots: &Slots, row: &[u16; PLACES], pen: Pen, marks: &mut [u8]) -> Pen
+    ensures ended { min (length slots.now.classes.now) (length marks.old) ≤ result.slot ⊎ (result.mark ≡ 1) }
+    ensures further { pen.slot < min (length slots.now.classes.now) (length marks.old) → pen.slot < result.slot }
+    ensures drawn { (w : ℕ) → Row slots.now.settings.shape (decode_all slots.now.classes.now) w row.now →
+        drawn_on slots.now.settings.shape (decode_all slots.now.classes.now) (left_of w (eqb result.mark 1)) result
+        marks.new
+        ≡ drawn_on slots.now.settings.shape (decode_all slots.now.classes.now) w pen marks.old }
 {
-    if b < a {
-        return b;
-    }
-    a
-}
-
-// The count, or NO_PLAN where slots are lacking.
-pub(crate) fn unless_lacking(lack: u16, count: u16) -> u16
-    ensures { result ≡ cond (eqb lack 0) count sentinel }
-{
-    if lack == 0 {
-        return count;
-    }
-    NO_PLAN
-}
-
-// Draws on until a window opens, or to the end. The row at `at` is for as many windows as are left.
-pub(crate) fn draw_on(
-    classes: &[u8],
-    lacks: &[u16; PLACES],
-    rows: &[u16],
-    at: usize,
-    pen: Pen,
-    marks: &mut [u8],
-) -> Pen
-    requires { (length classes.now ≤ limit) × (length lacks.now ≡ places)
-        × (at + length classes.now < length rows.now) }
-    ensures { (min (length classes.now) (length marks.old) ≤ result.slot ⊎ (result.mark ≡ 1))
-        × (pen.slot < min (length classes.now) (length marks.old) → pen.slot < result.slot)
-        × ((shape : Shape) (w : ℕ) → LacksFrom shape.settle (decode_all classes.now) lacks.now →
-        Row shape (decode_all classes.now) w rows.now at →
-        drawn_on shape (decode_all classes.now) (left_of w (eqb result.mark 1)) result marks.new
-        ≡ drawn_on shape (decode_all classes.now) w pen marks.old) }
-{
-    let n = common_slots(classes.len(), marks.len());
-    let mut i = pen.slot;
+    let n = slots.classes.len().min(marks.len());
     let mut mark = pen.mark;
     let mut covered = pen.covered;
-    while i < n {
-        let closed = close_window(mark, covered, unless_lacking(lacks[i], rows[at + i]));
-        mark = next_mark(closed, classes[i]);
+    for i in pen.slot..n {
+        let closed = close_window(mark, covered, unless_lacking(slots.lacks[i], row[i]));
+        mark = next_mark(closed, slots.classes[i]);
         covered = left_of(covered, mark != 0);
         marks[i] = mark;
-        i += 1;
         if mark == 1 {
             return Pen {
-                slot: i,
+                slot: i + 1,
                 mark,
                 covered,
             };
         }
     }
     Pen {
-        slot: i,
+        slot: n,
         mark,
         covered,
     }
 }
 
-// Draws all that is left, where a window has just opened and w windows were left before. `top` is the last row in the
-// ring.
-pub(crate) fn draw_rest(
-    settings: Settings,
-    classes: &[u8],
-    reach: &[u16; PLACES],
-    lacks: &[u16; PLACES],
-    w: u16,
-    top: u16,
-    rows: &mut [u16; RING],
-    begun: Pen,
-    marks: &mut [u8],
-)
-    requires { (length classes.now ≤ limit) × (length reach.now ≡ places) × (length lacks.now ≡ places)
-        × (length rows.old ≡ ring_places)
-        × Reaches settings.shape.len settings.shape.h (decode_all classes.now) reach.now
-        × LacksFrom settings.shape.settle (decode_all classes.now) lacks.now
-        × Ring settings.shape (decode_all classes.now) w rows.old top }
-    ensures { marks.new
-        ≡ drawn_on settings.shape (decode_all classes.now) (w - 1) begun marks.old }
+// Draws all that is left, where the first of the windows left in the ring has just opened.
+pub(crate) fn draw_rest(ring: &mut RowRing, begun: Pen, marks: &mut [u8])
+    ensures { marks.new ≡ drawn_on ring.old.slots.now.settings.shape (decode_all ring.old.slots.now.classes.now)
+        (ring.old.left - 1) begun marks.old }
 {
-    let n = common_slots(classes.len(), marks.len());
+    let slots = ring.slots;
+    let n = slots.classes.len().min(marks.len());
     let mut pen = begun;
-    let mut left = w;
-    let mut last = top;
+    // No `for`, since a turn goes on as far as the next window.
     while pen.slot < n {
-        last = ready(settings, classes, reach, lacks, left, last, rows);
-        left = one_fewer(left);
-        let at = place_of(left, last);
-        pen = draw_on(classes, lacks, rows, at, pen, marks);
+        ring.make_ready();
+        ring.use_one();
+        pen = draw_on(slots, &ring.row(), pen, marks);
     }
 }

@@ -2,7 +2,7 @@
 ghost use Rattle.std.specs.Prelude.{List, ◌∷◌, ◌≡◌, length, drop, ℕ, suc, ◌-◌, ◌≤◌};
 ghost use Rattle.rule.specs.ClassCodes.{decode, decode_all};
 ghost use Rattle.rule.specs.Ranges.{Class};
-ghost use Rattle.settings.specs.Refusals.{limit, places};
+ghost use Rattle.settings.specs.Refusals.{limit};
 ghost use Rattle.sides.specs.Reach.{low, fit};
 ghost use Rattle.fast.specs.Rows.{Reaches};
 ghost use Rattle.fast.specs.Spans.{Covers};
@@ -17,19 +17,9 @@ pub struct Span {
     pub bridges: u16,
 }
 
-// A len of 0 counts as 1.
-fn at_least_one(n: u16) -> u16
-    ensures { result ≡ suc (n - 1) }
-{
-    if n == 0 {
-        return 1;
-    }
-    n
-}
-
 // 1 for a slot that must be a bridge in a window, else 0.
 fn bridges_of(class: u8) -> u16
-    ensures { (result ≡ low (decode class)) × (result ≤ 1) }
+    ensures { result ≡ low (decode class) }
 {
     if class == UNDER {
         return 1;
@@ -39,15 +29,15 @@ fn bridges_of(class: u8) -> u16
 
 // The span from slot x on, with as many slots more as a window of at most len slots and h bridges can cover.
 fn extend(len: u16, h: u16, classes: &[u8], x: usize, span: Span) -> Span
-    requires { (length classes.now ≤ limit) × (x ≤ length classes.now)
-        × Covers len h (drop x (decode_all classes.now)) span }
-    ensures { Covers len h (drop x (decode_all classes.now)) result
-        × (result.slots ≡ fit (drop x (decode_all classes.now)) len h) }
+    requires few { length classes.now ≤ limit }
+    requires inside { x ≤ length classes.now }
+    requires covers { Covers len h (drop x (decode_all classes.now)) span }
+    ensures covers { Covers len h (drop x (decode_all classes.now)) result }
+    ensures whole { result.slots ≡ fit (drop x (decode_all classes.now)) len h }
 {
     let mut slots = span.slots;
     let mut bridges = span.bridges;
-    let mut i = x + (slots as usize);
-    while i < classes.len() {
+    for i in x + usize::from(slots)..classes.len() {
         if slots == len {
             return Span { slots, bridges };
         }
@@ -57,7 +47,6 @@ fn extend(len: u16, h: u16, classes: &[u8], x: usize, span: Span) -> Span
         }
         bridges += more;
         slots += 1;
-        i += 1;
     }
     Span { slots, bridges }
 }
@@ -80,20 +69,19 @@ fn without_first(class: u8, span: Span) -> Span
 // At each slot's place, how many slots a window can cover from there on, of at most len slots and h bridges.
 pub(crate) fn reaches(len: u16, h: u16, classes: &[u8]) -> [u16; PLACES]
     requires { length classes.now ≤ limit }
-    ensures { (length result ≡ places) × Reaches len h (decode_all classes.now) result }
+    ensures { Reaches len h (decode_all classes.now) result }
 {
-    let most = at_least_one(len);
+    // A len of 0 counts as 1.
+    let most = len.max(1);
     let mut reach = [0; PLACES];
     let mut span = Span {
         slots: 0,
         bridges: 0,
     };
-    let mut x = 0;
-    while x < classes.len() {
+    for x in 0..classes.len() {
         span = extend(most, h, classes, x, span);
         reach[x] = span.slots;
         span = without_first(classes[x], span);
-        x += 1;
     }
     reach
 }

@@ -2,59 +2,48 @@
 ghost use Rattle.std.specs.Prelude.{true, reverse, ◌↔◌, ◌≡◌, length, take, suc, ◌+◌, ◌-◌, ◌≤◌, ◌<◌};
 ghost use Rattle.rule.specs.ClassCodes.{decode, decode_all};
 ghost use Rattle.rule.specs.Ranges.{allows};
-ghost use Rattle.settings.specs.Refusals.{limit, places};
 ghost use Rattle.fast.specs.Sweep.{FreeSlots};
 
+use crate::slots::Slots;
 use rule::OVER;
-use settings::{LIMIT, PLACES};
+use settings::LIMIT;
 
-// The classes from the last slot to the first.
-pub(crate) fn turn(classes: &[u8]) -> [u8; LIMIT]
-    requires { length classes.now ≤ limit }
-    ensures { (length result ≡ limit) × (take (length classes.now) result ≡ reverse classes.now) }
+// The classes from the last slot to the first: the front of an array of the most, since there is no heap, and what puts
+// into a list of fixed capacity has an error that cannot come here.
+pub(crate) fn turn(slots: &Slots) -> [u8; LIMIT]
+    ensures { take (length slots.now.classes.now) result ≡ reverse slots.now.classes.now }
 {
-    let n = classes.len();
+    let n = slots.classes.len();
     let mut turned = [0; LIMIT];
-    let mut i = 0;
-    while i < n {
-        turned[i] = classes[n - (i + 1)];
-        i += 1;
+    for i in 0..n {
+        turned[i] = slots.classes[n - (i + 1)];
     }
     turned
 }
 
-// 1 for a slot that can be left uncovered between slots of which `before` and `after` are lacking, else 0: of the slots
-// owed, it and its neighbours have to have as many.
-fn free_code(class: u8, settle: u16, before: u16, after: u16) -> u8
-    ensures { (result ≡ 1) ↔ ((allows (decode class) 0 ≡ true) × (before + after ≤ suc settle)) }
+// Whether a slot can be left uncovered between slots of which `before` and `after` are lacking: of the slots owed, it
+// and its neighbours have to have as many.
+fn is_free(class: u8, settle: u16, before: u16, after: u16) -> bool
+    ensures { (result ≡ true) ↔ ((allows (decode class) 0 ≡ true) × (before + after ≤ suc settle)) }
 {
-    if class == OVER {
-        return 0;
-    }
-    if (before as u32) + (after as u32) > (settle as u32) + 1 {
-        return 0;
-    }
-    1
+    class != OVER && u32::from(before) + u32::from(after) <= u32::from(settle) + 1
 }
 
-// 1 for each slot that can be left uncovered between what is lacking before it (`turned`, from the last slot back) and
-// after it, else 0.
-pub(crate) fn free_slots(
-    classes: &[u8],
-    settle: u16,
-    lacks: &[u16; PLACES],
-    turned: &[u16; PLACES],
-) -> [u8; LIMIT]
-    requires { (length classes.now ≤ limit) × (length lacks.now ≡ places) × (length turned.now ≡ places) }
-    ensures { (length result ≡ limit)
-        × FreeSlots settle (decode_all classes.now) turned.now lacks.now result }
+// Which slots can be left uncovered between what is lacking before them (`before`, from the last slot back) and after
+// them.
+pub(crate) fn free_slots(slots: &Slots, before: &Slots) -> [bool; LIMIT]
+    ensures { FreeSlots slots.now.settings.shape.settle (decode_all slots.now.classes.now) before.now.lacks
+        slots.now.lacks result }
 {
-    let n = classes.len();
-    let mut free = [0; LIMIT];
-    let mut i = 0;
-    while i < n {
-        free[i] = free_code(classes[i], settle, turned[n - i], lacks[i + 1]);
-        i += 1;
+    let n = slots.classes.len();
+    let mut free = [false; LIMIT];
+    for i in 0..n {
+        free[i] = is_free(
+            slots.classes[i],
+            slots.settings.shape.settle,
+            before.lacks[n - i],
+            slots.lacks[i + 1],
+        );
     }
     free
 }

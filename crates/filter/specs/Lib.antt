@@ -1,2 +1,2 @@
 pub mod AnswerMeaning
-pub mod PartMeaning
+pub mod OpenIfLost

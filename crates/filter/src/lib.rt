@@ -5,65 +5,64 @@
 
 ghost use Rattle.std.specs.Prelude.{◌≡◌};
 ghost use Rattle.filter.specs.AnswerMeaning.{outcome_of};
+ghost use Rattle.refusals.specs.Answer.{gives};
 ghost use Rattle.requests.specs.Promise.{Keeps};
 ghost use Rattle.requests.specs.Request.{request_of, WellFormed};
 ghost use Rattle.requests.specs.Solution.{raised};
 
-use crate::narrow::narrow;
+use crate::narrow::Slots;
 use checks::check_request;
 use drawing::{classify, draw};
 use least::least_counts;
-use refusals::{Checked, Refusal};
+use refusals::Refusal;
 use requests::PlanCounts;
 use settings::{CountRange, Settings, differ};
 
 mod narrow;
 
-// What the filter answers.
-#[derive(Clone, Copy)]
-pub enum Answer {
-    Refused(Refusal),
-    NoPlan,
-    Planned(PlanCounts),
-}
-
-// Gives the first refusal that applies, or "no plan", or both count ranges with their minimums raised and the thrift.
-// Only in the last case does it write: the ranges lose the loads that occur in no plan, and the marks become the first
-// plan.
+// Gives the first refusal that applies, or `None` for "no plan", or both count ranges with their minimums raised and the
+// thrift. Only in the last case does it write: the ranges lose the loads that occur in no plan, and the marks become the
+// first plan.
+#[tactic(auto, unfolding(requests::specs::Request::filter_refusal))]
 pub fn filter(
     settings: Settings,
     lowest: &mut [i32],
     highest: &mut [i32],
     marks: &mut [u8],
-) -> Answer
+) -> Result<Option<PlanCounts>, Refusal>
     ensures { Keeps
         (request_of settings lowest.old highest.old marks.old)
         (outcome_of result lowest.new highest.new marks.new) }
 {
     let different = differ(lowest.len(), marks.len());
-    let checked = check_request(settings, lowest, highest, different);
-    match checked {
-        Checked::Passed => plan(settings, lowest, highest, marks),
-        Checked::Refused(refusal) => Answer::Refused(refusal),
-    }
+    check_request(settings, lowest, highest, different)?;
+    Ok(plan(settings, lowest, highest, marks))
 }
 
 // What the filter answers and writes for a request that is not refused.
-fn plan(settings: Settings, lowest: &mut [i32], highest: &mut [i32], marks: &mut [u8]) -> Answer
+fn plan(
+    settings: Settings,
+    lowest: &mut [i32],
+    highest: &mut [i32],
+    marks: &mut [u8],
+) -> Option<PlanCounts>
     requires { WellFormed (request_of settings lowest.old highest.old marks.old) }
     ensures { Keeps
         (request_of settings lowest.old highest.old marks.old)
-        (outcome_of result lowest.new highest.new marks.new) }
+        (outcome_of (gives result) lowest.new highest.new marks.new) }
 {
-    let n = lowest.len();
     let codes = classify(settings.k, lowest, highest);
-    let least = least_counts(settings, &codes[..n]);
+    let slots = Slots {
+        settings,
+        codes: &codes[..lowest.len()],
+    };
+    let least = least_counts(settings, slots.codes);
     if least.covered > settings.covered.most {
-        return Answer::NoPlan;
+        return None;
     }
-    draw(settings, &codes[..n], marks);
-    narrow(settings, codes, lowest, highest);
-    Answer::Planned(PlanCounts {
+    draw(settings, slots.codes, marks);
+    slots.narrow(lowest, highest);
+    Some(PlanCounts {
         windows: raise(settings.windows, least.windows),
         covered: raise(settings.covered, least.covered),
         thrift: least.thrift,
@@ -74,11 +73,8 @@ fn plan(settings: Settings, lowest: &mut [i32], highest: &mut [i32], marks: &mut
 fn raise(given: CountRange, least: u16) -> CountRange
     ensures { result ≡ raised given least }
 {
-    if given.least < least {
-        return CountRange {
-            least,
-            most: given.most,
-        };
+    CountRange {
+        least: given.least.max(least),
+        ..given
     }
-    given
 }

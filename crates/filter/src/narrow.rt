@@ -1,100 +1,92 @@
 // What each slot loses: the part of its range that occurs in no plan.
-ghost use Rattle.std.specs.Prelude.{◌≡◌, ◌≤◌, ◌<◌, length, take, set};
+ghost use Rattle.std.specs.Prelude.{◌≡◌, ◌≤◌, ◌<◌, length, set};
 ghost use Rattle.settings.specs.Refusals.{limit};
-ghost use Rattle.filter.specs.PartMeaning.{meaning, OpenIfLost};
+ghost use Rattle.filter.specs.OpenIfLost.{OpenIfLost};
 ghost use Rattle.rule.specs.ClassCodes.{decode, decode_all};
 ghost use Rattle.requests.specs.Promise.{lowest_after, highest_after};
 ghost use Rattle.requests.specs.Solution.{classes_of, possible, loss, lowest_left, highest_left};
 
 use least::least_counts;
+use requests::Loss;
 use rule::{OVER, Range, UNDER};
 use settings::{LIMIT, Settings};
 
-// What a slot loses.
+// The slots of a request that passes its checks, by the bytes that stand for their classes. `least` and `fast` have slots
+// of their own with other facts: one type for all would be public, and no plainer.
 #[derive(Clone, Copy)]
-pub enum Part {
-    Nothing,
-    Under,
-    Over,
+pub(crate) struct Slots<'a> {
+    pub settings: Settings,
+    pub codes: &'a [u8],
+    ghost few: { length codes.now ≤ limit },
+    ghost long: { 1 ≤ settings.shape.len },
 }
 
-// Whether a plan is left with slot i settled to one class.
-fn plan_remains(settings: Settings, codes: [u8; LIMIT], n: usize, i: usize, class: u8) -> bool
-    requires { (length codes ≡ limit) × (n ≤ limit) × (i < n) × (1 ≤ settings.shape.len) }
-    ensures { result ≡ possible settings (set (decode_all (take n codes)) i (decode class)) }
-{
-    let mut settled = codes;
-    settled[i] = class;
-    let found = least_counts(settings, &settled[..n]);
-    found.covered <= settings.covered.most
-}
+impl Slots<'_> {
+    // Cuts every slot's range, given as it was lent.
+    pub(crate) fn narrow(&self, lowest: &mut [i32], highest: &mut [i32])
+        requires { (length lowest.old ≡ length self.now.codes.now) × (length highest.old ≡ length lowest.old)
+            × (decode_all self.now.codes.now ≡ classes_of self.now.settings.k lowest.old highest.old) }
+        ensures { (lowest.new ≡ lowest_left self.now.settings (decode_all self.now.codes.now) lowest.old)
+            × (highest.new ≡ highest_left self.now.settings (decode_all self.now.codes.now) highest.old) }
+    {
+        for i in 0..lowest.len() {
+            let given = Range {
+                lowest: lowest[i],
+                highest: highest[i],
+            };
+            let kept = cut(self.settings.k, self.loss_at(i), given);
+            lowest[i] = kept.lowest;
+            highest[i] = kept.highest;
+        }
+    }
 
-// The part of slot i's range that occurs in no plan.
-fn loss_at(settings: Settings, codes: [u8; LIMIT], n: usize, i: usize) -> Part
-    requires { (length codes ≡ limit) × (n ≤ limit) × (i < n) × (1 ≤ settings.shape.len) }
-    ensures { meaning result ≡ loss settings (decode_all (take n codes)) i }
-{
-    if codes[i] == UNDER || codes[i] == OVER {
-        return Part::Nothing;
+    // The part of slot i's range that occurs in no plan.
+    #[tactic(auto, unfolding(requests::specs::Solution::loss, rule::specs::ClassCodes::decode))]
+    fn loss_at(&self, i: usize) -> Loss
+        requires { i < length self.now.codes.now }
+        ensures { result ≡ loss self.now.settings (decode_all self.now.codes.now) i }
+    {
+        if self.codes[i] == UNDER || self.codes[i] == OVER {
+            return Loss::Nothing;
+        }
+        if !self.plan_remains(i, UNDER) {
+            return Loss::Under;
+        }
+        if !self.plan_remains(i, OVER) {
+            return Loss::Over;
+        }
+        Loss::Nothing
     }
-    if !plan_remains(settings, codes, n, i, UNDER) {
-        return Part::Under;
+
+    // Whether a plan is left with slot i settled to one class.
+    fn plan_remains(&self, i: usize, class: u8) -> bool
+        requires { i < length self.now.codes.now }
+        ensures { result ≡ possible self.now.settings (set (decode_all self.now.codes.now) i (decode class)) }
+    {
+        // The first of an array of the most: what puts into a list of fixed capacity has an error that cannot come here.
+        let mut buffer = [0; LIMIT];
+        let settled = &mut buffer[..self.codes.len()];
+        settled.copy_from_slice(self.codes);
+        settled[i] = class;
+        least_counts(self.settings, settled).covered <= self.settings.covered.most
     }
-    if !plan_remains(settings, codes, n, i, OVER) {
-        return Part::Over;
-    }
-    Part::Nothing
 }
 
 // The range without what it loses. Only an open slot loses a part, so k + 1 is at most its highest load.
-fn cut(k: i32, part: Part, range: Range) -> Range
+fn cut(k: i32, part: Loss, range: Range) -> Range
     requires { OpenIfLost k part range.lowest range.highest }
-    ensures { (result.lowest ≡ lowest_after k (meaning part) range.lowest)
-        × (result.highest ≡ highest_after k (meaning part) range.highest) }
+    ensures { (result.lowest ≡ lowest_after k part range.lowest)
+        × (result.highest ≡ highest_after k part range.highest) }
 {
     match part {
-        Part::Nothing => range,
-        Part::Under => Range {
+        Loss::Nothing => range,
+        Loss::Under => Range {
             lowest: k + 1,
-            highest: range.highest,
+            ..range
         },
-        Part::Over => Range {
-            lowest: range.lowest,
+        Loss::Over => Range {
             highest: k,
+            ..range
         },
-    }
-}
-
-// Cuts every slot's range. `codes` has the classes of the ranges as they were lent.
-pub(crate) fn narrow(
-    settings: Settings,
-    codes: [u8; LIMIT],
-    lowest: &mut [i32],
-    highest: &mut [i32],
-)
-    requires { (length codes ≡ limit) × (length lowest.old ≤ limit) × (length highest.old ≡ length lowest.old)
-        × (1 ≤ settings.shape.len)
-        × (decode_all (take (length lowest.old) codes) ≡ classes_of settings.k lowest.old highest.old) }
-    ensures { (lowest.new
-        ≡ lowest_left settings (decode_all (take (length lowest.old) codes)) lowest.old)
-        × (highest.new
-        ≡ highest_left settings (decode_all (take (length lowest.old) codes)) highest.old) }
-{
-    let n = lowest.len();
-    let mut i = 0;
-    while i < n {
-        let part = loss_at(settings, codes, n, i);
-        let lo = lowest[i];
-        let hi = highest[i];
-        let given = Range {
-            lowest: lo,
-            highest: hi,
-        };
-        let kept = cut(settings.k, part, given);
-        let lo = kept.lowest;
-        let hi = kept.highest;
-        lowest[i] = lo;
-        highest[i] = hi;
-        i += 1;
     }
 }

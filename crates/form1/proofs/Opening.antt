@@ -2,25 +2,24 @@
 use Prim.Native.Nat.{ℕ, ◌+◌, ◌-◌, ◌*◌, ◌≤◌}
 use mathlib.Core.List.{List}
 use mathlib.Core.Option.{none, some}
-use mathlib.Core.Path.{◌≡◌, refl, sym, ap, ◌∙◌}
+use mathlib.Core.Path.{◌≡◌, refl, sym, ◌∙◌}
 use borrow.Author.Tests.{le-leb}
 use lib.ListN.{length}
 use Rattle.refusals.proofs.Answer.{answer-refuses, answer-gives}
+use Rattle.refusals.specs.Answer.{Answer, refuses, gives}
 use Rattle.refusals.specs.declared.Refusal.{Refusal}
 use Rattle.form1.specs.Form1.{trailer, distance, range_of, file_refusal}
-use Rattle.form1.specs.Opening.{meaning, contents, opening, range_at}
+use Rattle.form1.specs.Opening.{contents, opening, range_at}
 use Rattle.form1.specs.declared.Contents.{Contents}
-use Rattle.form1.specs.declared.Opened.{Opened}
-use Rattle.form1.specs.declared.Opened.TheVariants.{Refused, Whole}
 
-module _ (file : List ℕ) {r : Opened} (is : meaning r ≡ opening file) where
-  pub rows-refuse : {f : Refusal} → r ≡ Refused f → file_refusal file ≡ some f
+module _ (file : List ℕ) {r : Answer Contents} (is : r ≡ opening file) where
+  pub rows-refuse : {f : Refusal} → r ≡ refuses f → file_refusal file ≡ some f
   unfolding opening
-  rows-refuse e = (answer-refuses (file_refusal file) (contents file) _).0 (sym is ∙ ap meaning e)
+  rows-refuse e = (answer-refuses (file_refusal file) (contents file) _).0 (sym is ∙ e)
 
-  pub rows_pass : {c : Contents} → r ≡ Whole c → (file_refusal file ≡ none) × (c ≡ contents file)
+  pub rows_pass : {c : Contents} → r ≡ gives c → (file_refusal file ≡ none) × (c ≡ contents file)
   unfolding opening
-  rows_pass e = answer-gives (file_refusal file) (contents file) (sym is ∙ ap meaning e)
+  rows_pass e = answer-gives (file_refusal file) (contents file) (sym is ∙ e)
 
 -- the record of a slot stands after those of the slots before it
 pub slot_at : (file : List ℕ) (slot place : ℕ) → place ≡ trailer file - distance file + 8 * slot →

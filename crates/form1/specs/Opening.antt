@@ -1,17 +1,11 @@
 -- What `open` gives for a file, before its records are read, and what `range_at` gives for a place (document 01,
 -- "Form 1, on the card" and "Where each refusal is checked").
 use Rattle.std.specs.Prelude.{ℕ, ◌+◌, ◌-◌, cond, List, leb, pos, length}
-use Rattle.refusals.specs.Answer.{Answer, refuses, gives, answer}
+use Rattle.refusals.specs.Answer.{Answer, answer}
 use Rattle.rule.specs.Ranges.{range}
 use Rattle.rule.specs.declared.Range.{Range}
 use Rattle.form1.specs.Form1.{signed_at, trailer, distance, slots, settings, file_refusal}
 use Rattle.form1.specs.declared.Contents.{Contents}
-use Rattle.form1.specs.declared.Opened.{Opened}
-use Rattle.form1.specs.declared.Opened.TheVariants.{Refused, Whole}
-
-abbrev pub meaning : Opened → Answer Contents
-meaning (Refused r) = refuses r
-meaning (Whole contents) = gives contents
 
 -- what the trailer says; the distance counts back from the trailer's start to the first record
 abbrev pub contents : List ℕ → Contents

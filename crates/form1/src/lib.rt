@@ -4,22 +4,20 @@
 #![tactic(auto)]
 
 ghost use Rattle.std.specs.Prelude.{◌≡◌};
-ghost use Rattle.buffer.specs.Written.{Written};
-ghost use Rattle.form1.specs.Layout.{record_bytes};
-ghost use Rattle.form1.specs.Opening.{meaning, opening, range_at};
+ghost use Rattle.form1.specs.Opening.{opening, range_at};
 
-use crate::bytes::{put_signed, signed_at};
-use crate::check::check;
-use crate::fields::{settings, slots, start};
-use refusals::{Checked, Refusal};
+use crate::bytes::signed_at;
+use crate::trailer::Trailer;
+use refusals::Refusal;
 use rule::Range;
 use settings::Settings;
 
 mod bytes;
-mod check;
 mod fields;
+mod trailer;
 
-pub use fields::{SETTLE, TRAILER, put_trailer};
+pub use fields::{put_range, put_trailer};
+pub use trailer::{SETTLE, TRAILER};
 
 // How many bytes a record has.
 pub const RECORD: usize = 8;
@@ -32,38 +30,26 @@ pub struct Contents {
     pub start: usize,
 }
 
-#[derive(Clone, Copy)]
-pub enum Opened {
-    Refused(Refusal),
-    Whole(Contents),
-}
-
 // Gives the first of the refusals 11 to 16 that applies, or what the trailer says.
-pub fn open(file: &[u8]) -> Opened
-    ensures { meaning result ≡ opening file.now }
+pub fn open(file: &[u8]) -> Result<Contents, Refusal>
+    ensures { result ≡ opening file.now }
 {
-    let checked = check(file);
-    if let Checked::Refused(refusal) = checked {
-        return Opened::Refused(refusal);
-    }
-    Opened::Whole(Contents {
-        settings: settings(file),
-        n: slots(file),
-        start: start(file),
+    let trailer = Trailer::of(file)?;
+    trailer.check()?;
+    Ok(Contents {
+        settings: trailer.settings(),
+        n: trailer.slots(),
+        start: trailer.start(),
     })
 }
 
-// Gives the record that stands at a place; 0 and 0 where the file has no 8 bytes there.
+// Gives the record that stands at a place; 0 and 0 where the file has no 8 bytes there, and no Option, as it is promised
+// (`range_at` in specs/Opening.antt).
+#[tactic(auto, unfolding(crate::specs::Opening::range_at))]
 pub fn range_at(file: &[u8], place: usize) -> Range
     ensures { result ≡ range_at place file.now }
 {
-    if file.len() < RECORD {
-        return Range {
-            lowest: 0,
-            highest: 0,
-        };
-    }
-    if file.len() - RECORD < place {
+    if file.len() < RECORD || file.len() - RECORD < place {
         return Range {
             lowest: 0,
             highest: 0,
@@ -73,12 +59,4 @@ pub fn range_at(file: &[u8], place: usize) -> Range
         lowest: signed_at(file, place),
         highest: signed_at(file, place + 4),
     }
-}
-
-// Puts a record at a place, as far as it fits, and gives the place after it.
-pub fn put_range(range: Range, out: &mut [u8], place: usize) -> usize
-    ensures { Written (record_bytes range) place out.old out.new result }
-{
-    let highest = put_signed(range.lowest, out, place);
-    put_signed(range.highest, out, highest)
 }

@@ -5,7 +5,8 @@ use mathlib.Core.Path.{◌≡◌, refl, ap, ◌∙◌}
 use Rattle.refusals.proofs.Injective.{eleven-le-number}
 use Rattle.refusals.specs.Answer.{Answer, refuses, gives}
 use Rattle.paging.proofs.Decided.{decided}
-use Rattle.paging.specs.Paging.{Call, Result, next, no_further, Turns}
+use Rattle.paging.specs.Paging.{Call, Result, Turns}
+use Rattle.paging.specs.declared.Page.TheVariants.{Next as next, End as no_further}
 use Rattle.icecoppice.specs.PageNumbers.{page_numbers, TurnsInNumbers, PageMeans}
 use Rattle.icecoppice.specs.declared.pages.PageNumbers.{PageNumbers}
 

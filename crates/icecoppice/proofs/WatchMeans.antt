@@ -12,7 +12,6 @@ use Rattle.refusals.specs.Numbers.{number, slot}
 use Rattle.refusals.specs.declared.Refusal.{Refusal}
 use Rattle.refusals.specs.declared.Refusal.TheVariants.{Unreached, Full}
 use Rattle.watch.proofs.StartAnswers.{start-refuses, start_gives}
-use Rattle.watch.specs.Promise.{meaning}
 use Rattle.watch.specs.Start.{starting}
 use Rattle.watch.specs.States.{start_refusal}
 use Rattle.watch.specs.declared.Watch.{Watch}
@@ -40,7 +39,7 @@ same_code (refuses r) w = (refl, refl)
 
 module _ {w : Watch} {load : ℤ} {numbers : StepNumbers} (s : StepsInNumbers w load numbers) where
   abbrev step_answer : Answer Bool
-  step_answer = meaning s.stepped.answer
+  step_answer = s.stepped.answer
 
   code_is : numbers.code ≡ code step_answer
   code_is = ap (λ n. n.code) s.is ∙ (same_code step_answer _).0

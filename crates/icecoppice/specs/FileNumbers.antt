@@ -5,7 +5,8 @@ use Rattle.refusals.specs.Numbers.{number, slot}
 use Rattle.refusals.specs.declared.Refusal.{Refusal}
 use Rattle.rule.specs.declared.Range.{Range}
 use Rattle.settings.specs.declared.Settings.{Settings}
-use Rattle.card.specs.Reading.{Header, reading}
+use Rattle.card.specs.Reading.{reading}
+use Rattle.card.specs.declared.Header.{Header}
 use Rattle.writer.specs.Writing.{writing}
 use Rattle.icecoppice.specs.Numbers.{settings_of}
 use Rattle.icecoppice.specs.declared.files.FoundNumbers.{FoundNumbers}

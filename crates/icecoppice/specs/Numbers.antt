@@ -4,7 +4,7 @@ use Rattle.std.proofs.Math.Option.{some}
 use Rattle.refusals.specs.Answer.{Answer, refuses, gives}
 use Rattle.refusals.specs.Numbers.{number, slot}
 use Rattle.refusals.specs.declared.Refusal.{Refusal}
-use Rattle.judge.specs.Judgment.{Judgment, says, judgment}
+use Rattle.judge.specs.Judgment.{Judgment, says, yes, no, judgment}
 use Rattle.settings.specs.declared.Settings.{Settings}
 use Rattle.requests.specs.Promise.{Result, no_plan, planned, Outcome, Unaltered, Planned, NoPlan, Keeps}
 use Rattle.requests.specs.Request.{Request, filter_refusal, WellFormed, PlanOf}
@@ -50,8 +50,8 @@ answer_numbers (gives (planned n)) =
 
 -- the code is 0 for yes, 1 for no, else the refusal's number
 abbrev pub verdict_numbers : Judgment → VerdictNumbers
-verdict_numbers (gives (says true w c)) = record { code = 0; windows = w; covered = c }
-verdict_numbers (gives (says false w c)) = record { code = 1; windows = w; covered = c }
+verdict_numbers (gives (yes counts)) = record { code = 0; windows = counts.windows; covered = counts.covered }
+verdict_numbers (gives no) = record { code = 1; windows = 0; covered = 0 }
 verdict_numbers (refuses r) = record { code = number r; windows = 0; covered = 0 }
 
 abbrev pub outcome : Answer Result → (lowest highest : List ℤ) (marks : List ℕ) → Outcome

@@ -3,7 +3,8 @@ use Rattle.std.specs.Prelude.{ℕ, ◌≤◌, List, ◌≡◌}
 use Rattle.refusals.specs.Answer.{Answer, refuses, gives}
 use Rattle.refusals.specs.Numbers.{number, slot}
 use Rattle.refusals.specs.declared.Refusal.{Refusal}
-use Rattle.paging.specs.Paging.{Call, RefusedWith, Accepted, NextPlan, NoFurther, Result, next, no_further, Turns}
+use Rattle.paging.specs.Paging.{Call, RefusedWith, Accepted, NextPlan, NoFurther, Result, Turns}
+use Rattle.paging.specs.declared.Page.TheVariants.{Next as next, End as no_further}
 use Rattle.icecoppice.specs.declared.pages.PageNumbers.{PageNumbers}
 
 -- the code is 0 for a next plan, 1 for no further one, else the refusal's number; 31 also has its slot

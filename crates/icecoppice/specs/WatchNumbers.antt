@@ -3,7 +3,7 @@ use Rattle.std.specs.Prelude.{ℕ, ◌<◌, Bool, false, List, [], ◌∷◌, �
 use Rattle.std.proofs.Math.Option.{none}
 use Rattle.refusals.specs.Answer.{Answer, refuses, gives}
 use Rattle.refusals.specs.Numbers.{number}
-use Rattle.watch.specs.Promise.{meaning, opened, Steps}
+use Rattle.watch.specs.Promise.{opened, Steps}
 use Rattle.watch.specs.Start.{starting}
 use Rattle.watch.specs.States.{start_refusal, max_taken, LeadsTo, Reached}
 use Rattle.watch.specs.declared.Watch.{Watch}
@@ -27,7 +27,7 @@ step_numbers (refuses r) w = record { code = number r; opened = false; watch = w
 -- The numbers are those of a step that keeps its promise.
 pub record StepsInNumbers (w : Watch) (load : ℤ) (numbers : StepNumbers) : Type 0 where
   pub stepped : Stepped
-  pub is : numbers ≡ step_numbers (meaning stepped.answer) stepped.watch
+  pub is : numbers ≡ step_numbers stepped.answer stepped.watch
   pub kept : Steps w load stepped
 
 -- What a caller can tell from the numbers (proofs/WatchMeans.antt): code 0 is an accepted start, and the code of a

@@ -1,14 +1,16 @@
 // Form 1 files for C: the reader, the look-up by slot number, and the writer.
 ghost use Rattle.std.specs.Prelude.{◌≡◌};
 ghost use Rattle.card.specs.LookUp.{looking};
-ghost use Rattle.icecoppice.specs.FileNumbers.{ReadsInNumbers, reading_numbers, found_numbers};
-ghost use Rattle.icecoppice.specs.FileNumbers.{WritesInNumbers};
+ghost use Rattle.icecoppice.specs.FileNumbers.{ReadsInNumbers, reading_numbers, header_numbers};
+ghost use Rattle.icecoppice.specs.FileNumbers.{found_numbers, WritesInNumbers, writing_numbers};
 ghost use Rattle.icecoppice.specs.Numbers.{settings_of};
 
 use crate::gather;
-use card::{Found, Reading, look_up, read};
+use card::{Header, look_up, read};
+use refusals::Refusal;
+use rule::Range;
 use settings::Settings;
-use writer::{Writing, write};
+use writer::write;
 
 // What the reader gives, in numbers: the code 0, the number of slots and the settings, or the refusal's number and
 // zeros.
@@ -51,28 +53,14 @@ pub fn icecoppice_read(file: &[u8], lowest: &mut [i32], highest: &mut [i32]) -> 
         result lowest.new highest.new }
 {
     let reading = read(file, lowest, highest);
-    match reading {
-        Reading::Refused(refusal) => numbers(refusal.number(), 0, gather(0, 0, 0, 0, 0, 0, 0, 0)),
-        Reading::Taken { settings, n } => numbers(0, n, settings),
-    }
+    ReadingNumbers::from(reading)
 }
 
 pub fn icecoppice_look_up(file: &[u8], slot: usize) -> FoundNumbers
     ensures { result ≡ found_numbers (looking slot file.now) }
 {
     let found = look_up(file, slot);
-    match found {
-        Found::Refused(refusal) => FoundNumbers {
-            code: refusal.number(),
-            lowest: 0,
-            highest: 0,
-        },
-        Found::Record(range) => FoundNumbers {
-            code: 0,
-            lowest: range.lowest,
-            highest: range.highest,
-        },
-    }
+    FoundNumbers::from(found)
 }
 
 pub fn icecoppice_write(
@@ -103,17 +91,55 @@ pub fn icecoppice_write(
         covered_most,
     );
     let writing = write(settings, lowest, highest, out);
-    match writing {
-        Writing::Refused(refusal) => WritingNumbers {
-            code: refusal.number(),
-            slot: refusal.slot(),
-            length: 0,
-        },
-        Writing::Stored { length } => WritingNumbers {
-            code: 0,
-            slot: 0,
-            length,
-        },
+    WritingNumbers::from(writing)
+}
+
+impl From<Result<Header, Refusal>> for ReadingNumbers {
+    ghost from_gives = { λ reading numbers. numbers ≡ header_numbers reading };
+
+    fn from(reading: Result<Header, Refusal>) -> ReadingNumbers {
+        match reading {
+            Err(refusal) => numbers(refusal.number(), 0, gather(0, 0, 0, 0, 0, 0, 0, 0)),
+            Ok(Header { settings, n }) => numbers(0, n, settings),
+        }
+    }
+}
+
+impl From<Result<Range, Refusal>> for FoundNumbers {
+    ghost from_gives = { λ found numbers. numbers ≡ found_numbers found };
+
+    fn from(found: Result<Range, Refusal>) -> FoundNumbers {
+        match found {
+            Err(refusal) => FoundNumbers {
+                code: refusal.number(),
+                lowest: 0,
+                highest: 0,
+            },
+            Ok(range) => FoundNumbers {
+                code: 0,
+                lowest: range.lowest,
+                highest: range.highest,
+            },
+        }
+    }
+}
+
+impl From<Result<usize, Refusal>> for WritingNumbers {
+    ghost from_gives = { λ writing numbers. numbers ≡ writing_numbers writing };
+
+    fn from(writing: Result<usize, Refusal>) -> WritingNumbers {
+        match writing {
+            Err(refusal) => WritingNumbers {
+                code: refusal.number(),
+                slot: refusal.slot(),
+                length: 0,
+            },
+            Ok(length) => WritingNumbers {
+                code: 0,
+                slot: 0,
+                length,
+            },
+        }
     }
 }
 

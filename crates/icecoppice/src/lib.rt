@@ -1,16 +1,18 @@
 // The filter, the judge, the paging, the reader, the look-up, the writer and the watch for C, on numbers and slices,
 // under names that begin with `icecoppice_`. The crate icecoppice_c exports them; include/icecoppice.h declares them.
+// Eight numbers for the settings, two slices for the ranges, a code for an answer: the C interface.
 #![tactic(auto)]
 
 ghost use Rattle.std.specs.Prelude.{◌≡◌};
-ghost use Rattle.judge.specs.Judgment.{judgment, meaning as Verdict·meaning};
-ghost use Rattle.filter.specs.AnswerMeaning.{meaning as Answer·meaning};
+ghost use Rattle.judge.specs.Judgment.{judgment};
 ghost use Rattle.requests.specs.Request.{request_of};
 ghost use Rattle.icecoppice.specs.Numbers.{KeepsInNumbers, answer_numbers, verdict_numbers};
 ghost use Rattle.icecoppice.specs.Numbers.{settings_of, without_counts};
 
-use filter::{Answer, filter};
-use judge::{Verdict, judge};
+use filter::filter;
+use judge::{Counts, judge};
+use refusals::Refusal;
+use requests::PlanCounts;
 use rule::Shape;
 use settings::{CountRange, Settings};
 
@@ -78,7 +80,7 @@ pub fn icecoppice_filter(
         covered_most,
     );
     let answer = filter(settings, lowest, highest, marks);
-    answer_numbers(answer)
+    AnswerNumbers::from(answer)
 }
 
 pub fn icecoppice_judge(
@@ -108,7 +110,7 @@ pub fn icecoppice_judge(
         covered_most,
     );
     let verdict = judge(settings, loads, marks);
-    verdict_numbers(verdict)
+    VerdictNumbers::from(verdict)
 }
 
 fn gather(
@@ -137,21 +139,23 @@ fn gather(
     }
 }
 
-fn answer_numbers(answer: Answer) -> AnswerNumbers
-    ensures { result ≡ answer_numbers (Answer·meaning answer) }
-{
-    match answer {
-        Answer::Refused(refusal) => without_counts(refusal.number(), refusal.slot()),
-        Answer::NoPlan => without_counts(1, 0),
-        Answer::Planned(counts) => AnswerNumbers {
-            code: 0,
-            slot: 0,
-            windows_least: counts.windows.least,
-            windows_most: counts.windows.most,
-            covered_least: counts.covered.least,
-            covered_most: counts.covered.most,
-            thrift: counts.thrift,
-        },
+impl From<Result<Option<PlanCounts>, Refusal>> for AnswerNumbers {
+    ghost from_gives = { λ answer numbers. numbers ≡ answer_numbers answer };
+
+    fn from(answer: Result<Option<PlanCounts>, Refusal>) -> AnswerNumbers {
+        match answer {
+            Err(refusal) => without_counts(refusal.number(), refusal.slot()),
+            Ok(None) => without_counts(1, 0),
+            Ok(Some(counts)) => AnswerNumbers {
+                code: 0,
+                slot: 0,
+                windows_least: counts.windows.least,
+                windows_most: counts.windows.most,
+                covered_least: counts.covered.least,
+                covered_most: counts.covered.most,
+                thrift: counts.thrift,
+            },
+        }
     }
 }
 
@@ -169,24 +173,26 @@ fn without_counts(code: u16, slot: usize) -> AnswerNumbers
     }
 }
 
-fn verdict_numbers(verdict: Verdict) -> VerdictNumbers
-    ensures { result ≡ verdict_numbers (Verdict·meaning verdict) }
-{
-    match verdict {
-        Verdict::Yes { windows, covered } => VerdictNumbers {
-            code: 0,
-            windows,
-            covered,
-        },
-        Verdict::No => VerdictNumbers {
-            code: 1,
-            windows: 0,
-            covered: 0,
-        },
-        Verdict::Refused(refusal) => VerdictNumbers {
-            code: refusal.number(),
-            windows: 0,
-            covered: 0,
-        },
+impl From<Result<Option<Counts>, Refusal>> for VerdictNumbers {
+    ghost from_gives = { λ verdict numbers. numbers ≡ verdict_numbers verdict };
+
+    fn from(verdict: Result<Option<Counts>, Refusal>) -> VerdictNumbers {
+        match verdict {
+            Ok(Some(Counts { windows, covered })) => VerdictNumbers {
+                code: 0,
+                windows,
+                covered,
+            },
+            Ok(None) => VerdictNumbers {
+                code: 1,
+                windows: 0,
+                covered: 0,
+            },
+            Err(refusal) => VerdictNumbers {
+                code: refusal.number(),
+                windows: 0,
+                covered: 0,
+            },
+        }
     }
 }

@@ -1,12 +1,12 @@
 // The plans of a request, page by page, for C.
 ghost use Rattle.std.specs.Prelude.{◌≡◌};
-ghost use Rattle.paging.specs.PageMeaning.{meaning};
 ghost use Rattle.paging.specs.Paging.{call_of};
 ghost use Rattle.icecoppice.specs.Numbers.{settings_of};
 ghost use Rattle.icecoppice.specs.PageNumbers.{TurnsInNumbers, page_numbers};
 
 use crate::gather;
 use paging::{Page, next_plan};
+use refusals::Refusal;
 
 // What a call gives, in numbers: the code is 0 for a next plan, 1 for no further one, else the refusal's number, for 31
 // also with the slot.
@@ -47,18 +47,20 @@ pub fn icecoppice_next_plan(
         covered_most,
     );
     let page = next_plan(settings, lowest, highest, given, marks);
-    page_numbers(page)
+    PageNumbers::from(page)
 }
 
-fn page_numbers(page: Page) -> PageNumbers
-    ensures { result ≡ page_numbers (meaning page) }
-{
-    match page {
-        Page::Refused(refusal) => PageNumbers {
-            code: refusal.number(),
-            slot: refusal.slot(),
-        },
-        Page::Next => PageNumbers { code: 0, slot: 0 },
-        Page::End => PageNumbers { code: 1, slot: 0 },
+impl From<Result<Page, Refusal>> for PageNumbers {
+    ghost from_gives = { λ page numbers. numbers ≡ page_numbers page };
+
+    fn from(page: Result<Page, Refusal>) -> PageNumbers {
+        match page {
+            Err(refusal) => PageNumbers {
+                code: refusal.number(),
+                slot: refusal.slot(),
+            },
+            Ok(Page::Next) => PageNumbers { code: 0, slot: 0 },
+            Ok(Page::End) => PageNumbers { code: 1, slot: 0 },
+        }
     }
 }

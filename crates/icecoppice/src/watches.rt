@@ -1,9 +1,10 @@
 // The watch for C: its state is passed by value and comes back.
 ghost use Rattle.std.specs.Prelude.{◌≡◌};
 ghost use Rattle.watch.specs.Start.{starting};
-ghost use Rattle.icecoppice.specs.WatchNumbers.{no_watch, start_numbers, StepsInNumbers};
+ghost use Rattle.icecoppice.specs.WatchNumbers.{no_watch, start_numbers, step_numbers, StepsInNumbers};
 
-use watch::{Answer, Started, Watch};
+use refusals::Refusal;
+use watch::{Stepped, Watch};
 
 // What a watch's start gives, in numbers: the code 0 and a state, or the refusal's number and a state of zeros.
 #[repr(C)]
@@ -28,13 +29,7 @@ pub fn icecoppice_watch_start(k: i32, len: u16, h: u16) -> StartNumbers
     ensures { result ≡ start_numbers (starting k len h) }
 {
     let started = Watch::start(k, len, h);
-    match started {
-        Started::Watching(watch) => StartNumbers { code: 0, watch },
-        Started::Refused(refusal) => StartNumbers {
-            code: refusal.number(),
-            watch: no_watch(),
-        },
-    }
+    StartNumbers::from(started)
 }
 
 // Takes one load more. A refused step hands the state back as it is.
@@ -42,19 +37,40 @@ pub fn icecoppice_watch_step(watch: Watch, load: i32) -> StepNumbers
     ensures { StepsInNumbers watch load result }
 {
     let stepped = watch.step(load);
-    let watch = stepped.watch;
-    let answer = stepped.answer;
-    match answer {
-        Answer::Taken { opened } => StepNumbers {
-            code: 0,
-            opened,
-            watch,
-        },
-        Answer::Refused(refusal) => StepNumbers {
-            code: refusal.number(),
-            opened: false,
-            watch,
-        },
+    StepNumbers::from(stepped)
+}
+
+impl From<Result<Watch, Refusal>> for StartNumbers {
+    ghost from_gives = { λ started numbers. numbers ≡ start_numbers started };
+
+    fn from(started: Result<Watch, Refusal>) -> StartNumbers {
+        match started {
+            Ok(watch) => StartNumbers { code: 0, watch },
+            Err(refusal) => StartNumbers {
+                code: refusal.number(),
+                watch: no_watch(),
+            },
+        }
+    }
+}
+
+impl From<Stepped> for StepNumbers {
+    ghost from_gives = { λ stepped numbers. numbers ≡ step_numbers stepped.answer stepped.watch };
+
+    fn from(stepped: Stepped) -> StepNumbers {
+        let watch = stepped.watch;
+        match stepped.answer {
+            Ok(opened) => StepNumbers {
+                code: 0,
+                opened,
+                watch,
+            },
+            Err(refusal) => StepNumbers {
+                code: refusal.number(),
+                opened: false,
+                watch,
+            },
+        }
     }
 }
 

@@ -1,5 +1,5 @@
 // The functions of icecoppice as C calls them: the static library. Each export calls the function of its own name, and
-// has its contract.
+// has its contract: two of each is what the C interface needs, since no crate can name a static library.
 #![tactic(auto)]
 
 ghost use Rattle.std.specs.Prelude.{◌≡◌};

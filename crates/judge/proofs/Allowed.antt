@@ -1,6 +1,6 @@
 -- What it means that a plan is allowed, as three facts; what the judge says yes to, and what it refuses.
 use Prim.Native.Nat.{ℕ, ◌≤◌}
-use mathlib.Core.Bool.{Bool, true, false, cond, true≢false, ◌&&◌}
+use mathlib.Core.Bool.{Bool, true, false, cond, ◌&&◌}
 use mathlib.Core.List.{List}
 use mathlib.Core.Logic.{◌↔◌}
 use mathlib.Core.Option.{none, some}
@@ -13,7 +13,8 @@ use Rattle.refusals.proofs.Answer.{answer-refuses, answer-gives}
 use Rattle.refusals.specs.Answer.{refuses, gives}
 use Rattle.refusals.specs.declared.Refusal.{Refusal}
 use Rattle.settings.specs.declared.Settings.{Settings}
-use Rattle.judge.specs.Judgment.{YesOrNo, says, allowed, judge_refusal, judgment}
+use Rattle.judge.specs.Judgment.{YesOrNo, yes, no, says, allowed, judge_refusal, judgment}
+use Rattle.judge.specs.declared.Counts.{Counts}
 use Rattle.rule.specs.Rule.{legal, windows, covered}
 
 pub record Allowed (s : Settings) (loads : List ℤ) (marks : List ℕ) : Type 0 where
@@ -36,12 +37,10 @@ allowed-iff {s} {loads} {marks} = (to, from)
     from : Allowed s loads marks → allowed s loads marks ≡ true
     from a = rw (a.in_rule, le-leb _ _ a.windows_fit, le-leb _ _ a.covered_fit)
 
--- the parts of what the judge says
-abbrev yes? : YesOrNo → Bool
-yes? (says b w c) = b
-
-abbrev counts? : YesOrNo → ℕ × ℕ
-counts? (says b w c) = (w, c)
+-- the counts that go with yes
+abbrev counts? : YesOrNo → Counts
+counts? (yes n) = n
+counts? no = record { windows = 0; covered = 0 }
 
 module _ (s : Settings) (loads : List ℤ) (marks : List ℕ) where
   -- the judge says yes to what is allowed, where it refuses nothing
@@ -61,8 +60,8 @@ module _ (s : Settings) (loads : List ℤ) (marks : List ℕ) where
     where
       by : (b : Bool) → says true w c ≡ cond b (says true (windows marks) (covered marks)) (says false 0 0) →
           (b ≡ true) × (windows marks ≡ w) × (covered marks ≡ c)
-      by true e = (refl, ap (λ j. (counts? j).0) (sym e), ap (λ j. (counts? j).1) (sym e))
-      by false e = absurd (true≢false (ap yes? e))
+      by true e = (refl, ap (λ j. (counts? j).windows) (sym e), ap (λ j. (counts? j).covered) (sym e))
+      by false e = cc
 
   -- it refuses with the refusal that is given, and in no other situation
   pub judgment-refuses : (r : Refusal) → (judgment s loads marks ≡ refuses r) ↔ (judge_refusal s loads marks ≡ some r)

@@ -15,11 +15,10 @@ use Rattle.rule.proofs.BridgeCount.{running-step, running-le}
 use Rattle.judge.proofs.ScanStep.{Passes→not-broken, on→Passes}
 use Rattle.rule.specs.ScanState.{slots_after, advanced}
 use Rattle.rule.specs.BridgeCount.{running}
-use Rattle.judge.specs.ScanStep.{step_of}
+use Rattle.judge.specs.ScanStep.{step_of, on, broken}
 use Rattle.rule.specs.Rule.{over, clear, carries, legal}
 use Rattle.rule.specs.declared.ScanState.{ScanState}
 use Rattle.rule.specs.declared.Shape.{Shape}
-use Rattle.judge.specs.declared.marks.Step.TheVariants.{On, Broken}
 
 slots_after-le : (m : ℕ) {l i : ℕ} → l ≤ i → slots_after l m ≤ i + 1
 unfolding slots_after
@@ -74,10 +73,10 @@ module _ (k : ℤ) (shape : Shape) (xs : List ℤ) (ms : List ℕ) where
       legal→split e =
           legal_from-split (carries k) shape at _ x _ m (rw (uncons xs i (pos 0) hx, uncons ms i 0 hm) at (left.to e))
 
-      pub scan-broken : step_of shape at (over k x) m ≡ Broken → legal k shape xs ms ≡ false
+      pub scan-broken : step_of shape at (over k x) m ≡ broken → legal k shape xs ms ≡ false
       scan-broken e = false_of_not _ (λ q. Passes→not-broken shape _ _ _ (legal→split q).0 e)
 
-      pub scan_step : (next : ScanState) → step_of shape at (over k x) m ≡ On next → LeftToScan next (i + 1)
+      pub scan_step : (next : ScanState) → step_of shape at (over k x) m ≡ on next → LeftToScan next (i + 1)
       scan_step next e =
           let (p, n) = on→Passes shape _ _ _ next e in
           rw (← n)

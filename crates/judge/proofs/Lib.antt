@@ -1,4 +1,3 @@
 pub mod Allowed
-pub mod JudgeAnswers
 pub mod LegalLoop
 pub mod ScanStep

@@ -1,26 +1,26 @@
 -- What the judge says (document 01, "Judge").
 use Rattle.std.specs.Prelude.{ℕ, Bool, true, false, cond, ◌&&◌, List, leb, ℤ, length}
 use Rattle.std.proofs.Math.Option.{Option}
+use Rattle.std.specs.declared.option.Option.{Option as RustOption}
+pub use Rattle.std.specs.declared.option.Option.TheVariants.{Some as yes, None as no}
 use Rattle.refusals.specs.declared.Refusal.{Refusal}
 use Rattle.settings.specs.declared.Settings.{Settings}
-use Rattle.judge.specs.declared.Verdict.{Verdict}
-use Rattle.judge.specs.declared.Verdict.TheVariants.{Yes, No, Refused}
+use Rattle.judge.specs.declared.Counts.{Counts}
 use Rattle.rule.specs.Rule.{legal, windows, covered}
-use Rattle.refusals.specs.Answer.{Answer, refuses, gives, answer}
+use Rattle.refusals.specs.Answer.{Answer, answer}
 use Rattle.settings.specs.Refusals.{differs, refusal}
 
--- yes or no, with the window and covered counts
-pub data YesOrNo : Type 0 where
-  says : (yes : Bool) (windows covered : ℕ) → YesOrNo
+-- yes, with the window and covered counts, or no
+abbrev pub YesOrNo : Type 0
+YesOrNo = RustOption Counts
+
+-- the counts go with yes alone
+abbrev pub says : (yes : Bool) (windows covered : ℕ) → YesOrNo
+says true w c = yes (record { windows = w; covered = c })
+says false w c = no
 
 abbrev pub Judgment : Type 0
 Judgment = Answer YesOrNo
-
--- what a verdict means in document 01's words: no has both counts 0
-abbrev pub meaning : Verdict → Judgment
-meaning (Yes w c) = gives (says true w c)
-meaning No = gives (says false 0 0)
-meaning (Refused r) = refuses r
 
 -- the marks are legal for these loads and both counts are at most their maximums; the minimums take no part
 unfoldable pub allowed : Settings → List ℤ → List ℕ → Bool

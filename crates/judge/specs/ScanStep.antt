@@ -1,12 +1,11 @@
 -- What the private functions of the module `marks` promise. The public contract does not rest on it.
-use Rattle.std.specs.Prelude.{ℕ, ◌+◌, Bool, cond, not, ◌&&◌, leb, eqb}
+use Rattle.std.specs.Prelude.{ℕ, Bool, cond, not, ◌&&◌, leb}
 use Rattle.rule.specs.ScanState.{slots_after, bridges_after, too_soon, advanced}
 use Rattle.rule.specs.Rule.{goes_with, follows}
 use Rattle.rule.specs.declared.ScanState.{ScanState}
 use Rattle.rule.specs.declared.Shape.{Shape}
-use Rattle.judge.specs.declared.marks.Counts.{Counts}
-use Rattle.judge.specs.declared.marks.Step.{Step}
-use Rattle.judge.specs.declared.marks.Step.TheVariants.{On, Broken}
+use Rattle.std.specs.declared.option.Option.{Option}
+pub use Rattle.std.specs.declared.option.Option.TheVariants.{Some as on, None as broken}
 
 -- a slot's mark m keeps the rule so far
 unfoldable pub passes : Shape → ScanState → (over : Bool) (m : ℕ) → Bool
@@ -17,11 +16,5 @@ passes shape at o m =
     && leb (slots_after at.slots m) shape.len
     && leb (bridges_after at.bridges m) shape.h
 
-unfoldable pub step_of : Shape → ScanState → (over : Bool) (m : ℕ) → Step
-step_of shape at o m = cond (passes shape at o m) (On (advanced shape.settle at m)) Broken
-
-abbrev pub with_mark : Counts → ℕ → Counts
-with_mark seen m = record {
-  windows = cond (eqb m 1) (seen.windows + 1) seen.windows;
-  covered = cond (not (eqb m 0)) (seen.covered + 1) seen.covered;
-}
+unfoldable pub step_of : Shape → ScanState → (over : Bool) (m : ℕ) → Option ScanState
+step_of shape at o m = cond (passes shape at o m) (on (advanced shape.settle at m)) broken

@@ -2,44 +2,34 @@
 #![tactic(auto)]
 
 ghost use Rattle.std.specs.Prelude.{◌≡◌};
-ghost use Rattle.judge.specs.Judgment.{judgment, meaning};
+ghost use Rattle.judge.specs.Judgment.{judgment};
 
 use crate::marks::{count_marks, legal};
-use refusals::{Checked, Refusal};
+use refusals::Refusal;
 use settings::{Settings, check, differ};
 
 mod marks;
 
-// What the judge says of a plan.
-#[derive(Clone, Copy)]
-pub enum Verdict {
-    Yes { windows: u16, covered: u16 },
-    No,
-    Refused(Refusal),
+// How many windows marks draw, and how many slots they cover. Fewer windows come first, then fewer covered slots.
+#[derive(Clone, Copy, Debug, PartialEq, Eq, PartialOrd, Ord)]
+pub struct Counts {
+    pub windows: u16,
+    pub covered: u16,
 }
 
 // Says yes, with the window and covered counts, exactly when the marks are legal for the loads and
-// neither count is above its maximum.
-pub fn judge(settings: Settings, loads: &[i32], marks: &[u8]) -> Verdict
-    ensures { meaning result ≡ judgment settings loads.now marks.now }
+// neither count is above its maximum. `None` is no.
+#[tactic(auto, unfolding(crate::specs::Judgment::judgment, crate::specs::Judgment::allowed))]
+pub fn judge(settings: Settings, loads: &[i32], marks: &[u8]) -> Result<Option<Counts>, Refusal>
+    ensures { result ≡ judgment settings loads.now marks.now }
 {
-    let different = differ(loads.len(), marks.len());
-    let checked = check(settings, loads.len(), different);
-    if let Checked::Refused(refusal) = checked {
-        return Verdict::Refused(refusal);
-    }
+    check(settings, loads.len(), differ(loads.len(), marks.len()))?;
     if !legal(settings, loads, marks) {
-        return Verdict::No;
+        return Ok(None);
     }
     let seen = count_marks(marks);
-    if seen.windows > settings.windows.most {
-        return Verdict::No;
+    if seen.windows > settings.windows.most || seen.covered > settings.covered.most {
+        return Ok(None);
     }
-    if seen.covered > settings.covered.most {
-        return Verdict::No;
-    }
-    Verdict::Yes {
-        windows: seen.windows,
-        covered: seen.covered,
-    }
+    Ok(Some(seen))
 }

@@ -116,17 +116,14 @@ module _ (classes after : List ℕ) (from slots bridges : ℕ) where
   cs = decode_all classes
 
   pub record Scan (g : UnderWay) (i : ℕ) : Type 0 where
-    pub inside : i ≤ length classes
     pub covered_le : g.covered ≤ i
     pub least_le : g.least ≤ sentinel
     pub same : (s : Settings) (w : ℕ) → RowAfter s cs w after →
         total s.shape w g (drop i cs) ≡ inside_with s.shape w (drop from cs) slots bridges
 
-  pub scan-start : from ≤ length classes →
-      Scan (record { slots = slots; bridges = bridges; covered = 0; least = sentinel }) from
-  scan-start e =
+  pub scan-start : Scan (record { slots = slots; bridges = bridges; covered = 0; least = sentinel }) from
+  scan-start =
       record {
-        inside = e;
         covered_le = omega arith;
         least_le = omega arith;
         same = λ s w b. omega (arith, inside_with-le s.shape w (drop from cs) slots bridges);
@@ -140,7 +137,6 @@ module _ (classes after : List ℕ) (from slots bridges : ℕ) where
         let (one_more, no_more) =
         extended-bounded over g.slots g.bridges g.covered g.least (get_or after (i + 1) 0) in
         record {
-          inside = omega arith;
           covered_le = omega (arith, one_more, scan.covered_le);
           least_le = omega (arith, no_more, scan.least_le);
           same = λ s w b.

@@ -1,4 +1,3 @@
 pub mod AfterLoop
 pub mod RowLoops
-mod FirstSlots
 pub mod InsideLoop

@@ -1,17 +1,17 @@
 -- Rows, filled from the last slot back to the first, the window counts that they rule out, and the thrift.
 use Prim.Native.Nat.{ℕ, zero, suc, ◌+◌, ◌≤◌, ◌<◌, min}
-use native.Mathlib.Nat.{le_refl, eq-or-lt_of_le}
+use native.Mathlib.Nat.{eq-or-lt_of_le}
 use native.Mathlib.Numerals.{add-one}
 use native.Mathlib.Omega.{arith}
 use mathlib.Core.Bool.{Bool, true, false, cond}
 use mathlib.Core.List.{List, []}
 use mathlib.Core.Logic.{◌⊎◌, inl, inr, ⊎_elim}
 use mathlib.Core.Path.{◌≡◌, refl, sym, ap, subst, ◌∙◌}
-use borrow.Author.Tests.{lt-ltb, le-ltb, leb-true, leb-false}
-use lib.Dec.{leb, ltb}
-use lib.ListN.{length, drop, get_or, set, replicate, drop_of_length-le, length-map, length-set, length-replicate}
+use borrow.Author.Tests.{lt-ltb, le-ltb, ltb-true, ltb-false}
+use lib.Dec.{ltb}
+use lib.ListN.{length, drop, get_or, replicate, drop_of_length-le, length-map, length-replicate}
 use lib.ListN.{get_or-replicate}
-use lib.Seq.{get_or-set_same, get_or-set_other}
+use mir.Val.{bool_byte}
 use Rattle.rule.specs.Ranges.{Class}
 use Rattle.settings.specs.declared.Settings.{Settings}
 use Rattle.settings.specs.Refusals.{limit, places}
@@ -45,14 +45,15 @@ module _ (s : Settings) (classes : List ℕ) where
   module _ (after : List ℕ) (i w : ℕ) (b : RowAfter s cs w after) where
     pub least-opening : (later : ℕ) → i < length classes → i < limit → get_or classes i 0 ≡ 1 →
         later ≡ using_one sentinel w (inside_from s cs (i + 1)) →
-        min sentinel (1 + min (get_or after (i + 1) 0) later) ≡ least i w
+        min (min (get_or after (i + 1) 0) later + 1) sentinel ≡ least i w
     unfolding best
     least-opening later e l o is =
         let after_is = b.counts (i + 1) (omega arith) in
         rw (from-slot classes i e, cannot-be-uncovered (get_or classes i 0) o, is, after_is) (by w)
       where
-        by : (w : ℕ) → min sentinel
-            (1 + min (using_one sentinel w (after_from s cs (i + 1))) (using_one sentinel w (inside_from s cs (i + 1))))
+        by : (w : ℕ) → min
+            (min (using_one sentinel w (after_from s cs (i + 1))) (using_one sentinel w (inside_from s cs (i + 1))) + 1)
+            sentinel
             ≡ saturating_suc sentinel
             (using_one sentinel w λ v. min (after_from s cs (i + 1) v) (inside_from s cs (i + 1) v))
         by zero = omega arith
@@ -60,7 +61,6 @@ module _ (s : Settings) (classes : List ℕ) where
 
   -- a row that is filled from slot i on
   pub record RowFrom (after row : List ℕ) (i : ℕ) : Type 0 where
-    pub inside : i ≤ length classes
     pub wide : length row ≡ places
     pub counts : (w : ℕ) → RowAfter s cs w after → (j : ℕ) → i ≤ j → j ≤ limit → get_or row j 0 ≡ least j w
 
@@ -69,32 +69,11 @@ module _ (s : Settings) (classes : List ℕ) where
     unfolding best
     row-start e =
         record {
-          inside = le_refl _;
           wide = length-replicate {A = ℕ} places 0;
           counts = λ w b j p q.
               let none : drop j cs ≡ [] = drop_of_length-le cs {i = j} (omega (arith, p, length-map classes decode)) in
               rw none (get_or-replicate places j 0 0 (omega arith));
         }
-
-    pub row_step : (row : List ℕ) (i v : ℕ) {j : ℕ} → length classes ≤ limit → j ≡ i + 1 → RowFrom after row j →
-        ((w : ℕ) → RowAfter s cs w after → get_or row (i + 1) 0 ≡ least (i + 1) w → v ≡ least i w) →
-        RowFrom after (set row i v) i
-    row_step row i v e at g is =
-        let f = subst (RowFrom after row) at g in
-        record {
-          inside = omega (arith, f.inside);
-          wide = length-set row i v ∙ f.wide;
-          counts = λ w b j p q.
-              let here = is w b (f.counts w b (i + 1) (le_refl _) (omega (arith, e, f.inside))) in
-              ⊎_elim
-              (λ s. rw (← s) (get_or-set_same row i v 0 (omega (arith, e, f.inside, f.wide)) ∙ here))
-              (λ l. get_or-set_other row i j v 0 (omega (arith, l)) ∙ f.counts w b j (omega (arith, l)) q)
-              (eq-or-lt_of_le p);
-        }
-
-    pub row-end : {row : List ℕ} {i : ℕ} → i ≤ 0 → RowFrom after row i → (w : ℕ) →
-        RowAfter s cs w after → Row s cs w row
-    row-end e f w b = record { wide = f.wide; counts = λ j l. f.counts w b j (omega arith) l }
 
   abbrev c : ℕ
   c = s.covered.most
@@ -110,25 +89,25 @@ module _ (s : Settings) (classes : List ℕ) where
   first-start =
       record { within = omega arith; above_max = λ u l. absurd (omega arith); enough = λ l. absurd (omega arith) }
 
-  first_step : (v first : ℕ) → FirstSoFar v first → FirstSoFar (v + 1) (first + cond (leb (covers v) c) 0 1)
-  first_step v first p = by (leb (covers v) c) refl (eq-or-lt_of_le p.within)
+  first_step : (v first : ℕ) → FirstSoFar v first → FirstSoFar (v + 1) (first + bool_byte (ltb c (covers v)))
+  first_step v first p = by (ltb c (covers v)) refl (eq-or-lt_of_le p.within)
     where
-      by : (b : Bool) → leb (covers v) c ≡ b → (first ≡ v) ⊎ (first < v) → FirstSoFar (v + 1) (first + cond b 0 1)
-      by true e o =
+      by : (b : Bool) → ltb c (covers v) ≡ b → (first ≡ v) ⊎ (first < v) → FirstSoFar (v + 1) (first + bool_byte b)
+      by false e o =
           let same : first + 0 ≡ first = omega arith in
-          let within-max = ⊎_elim (λ q. subst (λ u. covers u ≤ c) (sym q) (leb-true _ _ e)) p.enough o in
+          let within-max = ⊎_elim (λ q. subst (λ u. covers u ≤ c) (sym q) (ltb-false _ _ e)) p.enough o in
           rw same (record { within = omega arith; above_max = p.above_max; enough = λ _. within-max })
-      by false e (inl q) =
+      by true e (inl q) =
           record {
             within = omega arith;
             above_max = λ u l.
                 let at_most : u ≤ first = omega arith in
-                ⊎_elim (λ t. subst (λ u. c < covers u) (sym (t ∙ q)) (leb-false _ _ e)) (p.above_max u)
+                ⊎_elim (λ t. subst (λ u. c < covers u) (sym (t ∙ q)) (ltb-true _ _ e)) (p.above_max u)
                 (eq-or-lt_of_le at_most);
             enough = λ l. absurd (omega arith);
           }
-      by false e (inr l) =
-          let above_max : c < covers v = leb-false _ _ e in
+      by true e (inr l) =
+          let above_max : c < covers v = ltb-true _ _ e in
           absurd (omega (arith, above_max, p.enough l, best-antitone sentinel s.shape cs p.within))
 
   -- at the end this is the count that `fewest` finds
@@ -169,7 +148,7 @@ module _ (s : Settings) (classes : List ℕ) where
 
   pub rows_step : (v first more : ℕ) {thrift thrift' : ℕ} {after row after' : List ℕ} →
       RowsSoFar v after first thrift → ((w : ℕ) → RowAfter s cs w after → Row s cs w row) →
-      ((w : ℕ) → Row s cs w row → RowAfter s cs (w + 1) after') → more ≡ cond (leb (get_or row 0 0) c) 0 1 →
+      ((w : ℕ) → Row s cs w row → RowAfter s cs (w + 1) after') → more ≡ bool_byte (ltb c (get_or row 0 0)) →
       thrift' ≡ cond (ltb first v) thrift (get_or row 0 0) → RowsSoFar (v + 1) after' (first + more) thrift'
   rows_step v first more r next mask is kept =
       let row = next v r.row in

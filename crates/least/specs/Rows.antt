@@ -41,11 +41,6 @@ pub record RowAfter (s : Settings) (cs : List Class) (w : ℕ) (after : List ℕ
   pub wide : length after ≡ places
   pub counts : (i : ℕ) → i ≤ limit → get_or after i 0 ≡ using_one sentinel w (after_from s cs i)
 
--- How many of the settle slots owed a window lacks that closes before a slot of class c, up to the next slot that must
--- be over; `next` is how many one lacks that closes after it. A window may close where it lacks none.
-abbrev pub lacking_before : (settle : ℕ) → Class → (next : ℕ) → ℕ
-lacking_before settle c next = cond (allows c 0) (next - 1) settle
-
 -- A window extended by the next slot, where `after` is the least covered count of what comes after that slot. A slot
 -- that can be over is taken as over, and the window may close after it; any other is a bridge, where one is left.
 abbrev pub extended_by : (over : Bool) (slots bridges covered least after : ℕ) → UnderWay

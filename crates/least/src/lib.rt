@@ -3,20 +3,19 @@
 // on. What these counts are is `best` (crates/requests/specs/Best.antt).
 #![tactic(auto)]
 
-ghost use Rattle.std.specs.Prelude.{cond, ◌≡◌, leb, ltb, eqb, ℕ, ◌+◌, ◌-◌, ◌≤◌, ◌<◌, min, length, take};
-ghost use Rattle.settings.specs.Refusals.{limit, places};
+ghost use Rattle.std.specs.Prelude.{cond, ◌≡◌, ltb, ℕ, ◌+◌, ◌≤◌, ◌<◌, length, take};
+ghost use Rattle.settings.specs.Refusals.{limit};
 ghost use Rattle.requests.specs.Best.{using_one};
 ghost use Rattle.rule.specs.ClassCodes.{decode, decode_all};
 ghost use Rattle.least.specs.Counts.{Counted};
 ghost use Rattle.least.specs.Rows.{Row, RowAfter, least_from, inside_from, first_below, thrift_below};
-ghost use Rattle.least.specs.Rows.{extended, lacking_before};
+ghost use Rattle.least.specs.Rows.{extended};
 ghost use Rattle.requests.specs.Solution.{sentinel};
 
+pub use marks::NO_PLAN;
+use marks::{lacking, unless_lacking};
 use rule::{OVER, UNDER};
 use settings::{LIMIT, PLACES, Settings};
-
-// The covered count that stands for "no plan". Counts are capped there, so that only a smaller count is the least.
-pub const NO_PLAN: u16 = 65535;
 
 // A window under way: the slots and bridges left to it, the slots that it has covered so far, and
 // the least covered count found up to here, of the window and what comes after it.
@@ -53,25 +52,6 @@ pub struct LeastCounts {
     pub covered: u16,
 }
 
-// The sum of both covered counts, or NO_PLAN where it is not smaller than that.
-fn saturating_add(covered: u16, after: u16) -> u16
-    ensures { result ≡ min sentinel (covered + after) }
-{
-    if after >= NO_PLAN - covered {
-        return NO_PLAN;
-    }
-    covered + after
-}
-
-fn smaller(a: u16, b: u16) -> u16
-    ensures { result ≡ min a b }
-{
-    if b < a {
-        return b;
-    }
-    a
-}
-
 // The window extended by the next slot, where `after` is the least covered count of what comes
 // after that slot. A slot that can be over is taken as over, and the window may close after it; any
 // other is a bridge, and where no bridge is left the window continues no further.
@@ -79,98 +59,26 @@ fn extend(window: UnderWay, class: u8, after: u16) -> UnderWay
     requires { (1 ≤ window.slots) × (window.covered < sentinel) }
     ensures { result ≡ extended window (decode class) after }
 {
+    let slots = window.slots - 1;
     let covered = window.covered + 1;
     if class != UNDER {
+        let least = window.least.min(after.saturating_add(covered));
         return UnderWay {
-            slots: window.slots - 1,
-            bridges: window.bridges,
+            slots,
             covered,
-            least: smaller(window.least, saturating_add(covered, after)),
+            least,
+            ..window
         };
     }
     if window.bridges == 0 {
-        return UnderWay {
-            slots: 0,
-            bridges: 0,
-            covered: window.covered,
-            least: window.least,
-        };
+        return UnderWay { slots: 0, ..window };
     }
     UnderWay {
-        slots: window.slots - 1,
+        slots,
         bridges: window.bridges - 1,
         covered,
-        least: window.least,
+        ..window
     }
-}
-
-fn one_fewer(n: u16) -> u16
-    ensures { result ≡ n - 1 }
-{
-    if n == 0 {
-        return 0;
-    }
-    n - 1
-}
-
-// The least covered count of the slots from `from` on, in a window whose first slot is right before
-// them and which continues.
-fn least_inside(settings: Settings, classes: &[u8], after: &[u16; PLACES], from: usize) -> u16
-    requires { (length classes.now ≤ limit) × (from ≤ length classes.now) × (length after.now ≡ places) }
-    ensures { (w : ℕ) → RowAfter settings (decode_all classes.now) w after.now →
-        result ≡ using_one sentinel w (inside_from settings (decode_all classes.now) from) }
-{
-    let mut window = UnderWay {
-        slots: one_fewer(settings.shape.len),
-        bridges: settings.shape.h,
-        covered: 0,
-        least: NO_PLAN,
-    };
-    let mut i = from;
-    while i < classes.len() && window.slots > 0 {
-        window = extend(window, classes[i], after[i + 1]);
-        i += 1;
-    }
-    window.least
-}
-
-// The least covered count of the slots from slot i on, where `next` is that of the slots after it.
-fn least_from(settings: Settings, classes: &[u8], after: &[u16; PLACES], i: usize, next: u16) -> u16
-    requires { (length classes.now ≤ limit) × (i < length classes.now) × (length after.now ≡ places) }
-    ensures { (w : ℕ) → RowAfter settings (decode_all classes.now) w after.now →
-        next ≡ least_from settings (decode_all classes.now) (i + 1) w →
-        result ≡ least_from settings (decode_all classes.now) i w }
-{
-    if classes[i] != OVER {
-        return next;
-    }
-    let later = least_inside(settings, classes, after, i + 1);
-    saturating_add(1, smaller(after[i + 1], later))
-}
-
-// A row of least counts, computed from the row `after` of what comes after a window.
-fn next_row(settings: Settings, classes: &[u8], after: &[u16; PLACES]) -> [u16; PLACES]
-    requires { (length classes.now ≤ limit) × (length after.now ≡ places) }
-    ensures { (w : ℕ) → RowAfter settings (decode_all classes.now) w after.now →
-        Row settings (decode_all classes.now) w result }
-{
-    let mut row = [0; PLACES];
-    let mut i = classes.len();
-    while i > 0 {
-        i -= 1;
-        row[i] = least_from(settings, classes, after, i, row[i + 1]);
-    }
-    row
-}
-
-// 1 for a count above the most, else 0.
-fn above(count: u16, most: u16) -> u16
-    ensures { (result ≡ cond (leb count most) 0 1) × (result ≤ 1) }
-{
-    if count > most {
-        return 1;
-    }
-    0
 }
 
 // The covered count to hand up after the row for v windows, which has `count` at slot 0: where the
@@ -184,107 +92,134 @@ fn thrift_after(first: u16, v: u16, thrift: u16, count: u16) -> u16
     count
 }
 
-// How many of the slots owed a window lacks that closes right before this slot, up to the next slot that must be over;
-// `next` is how many one lacks that closes after it.
-fn lacking(settle: u16, class: u8, next: u16) -> u16
-    ensures { result ≡ lacking_before settle (decode class) next }
-{
-    if class == OVER {
-        return settle;
-    }
-    one_fewer(next)
+// The slots that least counts are sought of, no more than a row has places for.
+#[derive(Clone, Copy)]
+struct Slots<'a> {
+    settings: Settings,
+    classes: &'a [u8],
+    ghost few: { length classes.now ≤ limit },
 }
 
-// The count, or NO_PLAN where slots are lacking.
-fn unless_lacking(lack: u16, count: u16) -> u16
-    ensures { result ≡ cond (eqb lack 0) count sentinel }
-{
-    if lack == 0 {
-        return count;
+// A row is handed over as an array, and what it is is said for every w: how many windows it is of is no value here that a
+// type could hold.
+impl<'a> Slots<'a> {
+    // The first LIMIT slots, or all of them if they are fewer.
+    fn first(settings: Settings, classes: &'a [u8]) -> Slots<'a>
+        ensures settings { result.settings ≡ settings }
+        ensures classes { result.classes.now ≡ take limit classes.now }
+    {
+        let n = LIMIT.min(classes.len());
+        Slots {
+            settings,
+            classes: &classes[..n],
+        }
     }
-    NO_PLAN
-}
 
-// What comes after a window, from a row of least counts: leaving slots uncovered costs nothing, so that the settle
-// count only keeps a window from closing where one of the next slots must be over.
-fn after_window(settings: Settings, classes: &[u8], row: &[u16; PLACES]) -> [u16; PLACES]
-    requires { (length classes.now ≤ limit) × (length row.now ≡ places) }
-    ensures { (w : ℕ) → Row settings (decode_all classes.now) w row.now →
-        RowAfter settings (decode_all classes.now) (w + 1) result }
-{
-    let mut after = [0; PLACES];
-    let mut lack = 0;
-    let mut i = classes.len();
-    while i > 0 {
-        i -= 1;
-        lack = lacking(settings.shape.settle, classes[i], lack);
-        after[i] = unless_lacking(lack, row[i]);
+    // The least covered count of the slots from `from` on, in a window whose first slot is right before
+    // them and which continues.
+    fn least_inside(self, after: &[u16; PLACES], from: usize) -> u16
+        requires { from ≤ length self.classes.now }
+        ensures { let s = self.entry.settings in let cs = decode_all self.entry.classes.now in
+            (w : ℕ) → RowAfter s cs w after.now → result ≡ using_one sentinel w (inside_from s cs from) }
+    {
+        let mut window = UnderWay {
+            slots: self.settings.shape.len.saturating_sub(1),
+            bridges: self.settings.shape.h,
+            covered: 0,
+            least: NO_PLAN,
+        };
+        for i in from..self.classes.len() {
+            if window.slots == 0 {
+                break;
+            }
+            window = extend(window, self.classes[i], after[i + 1]);
+        }
+        window.least
     }
-    after
-}
 
-// The rows for fewer than w windows, of which only the last is kept.
-fn fill_rows(settings: Settings, classes: &[u8], w: u16) -> Filled
-    requires { length classes.now ≤ limit }
-    ensures { RowAfter settings (decode_all classes.now) w result.after
-        × (result.first ≡ first_below settings (decode_all classes.now) w)
-        × (result.thrift ≡ thrift_below settings (decode_all classes.now) w) }
-{
-    let mut after = [NO_PLAN; PLACES];
-    let mut first = 0;
-    let mut thrift = NO_PLAN;
-    let mut v = 0;
-    while v < w {
-        let row = next_row(settings, classes, &after);
-        let count = row[0];
-        after = after_window(settings, classes, &row);
-        thrift = thrift_after(first, v, thrift, count);
-        first += above(count, settings.covered.most);
-        v += 1;
+    // The least covered count of the slots from slot i on, where `next` is that of the slots after it.
+    fn least_from(self, after: &[u16; PLACES], i: usize, next: u16) -> u16
+        requires { i < length self.classes.now }
+        ensures { let s = self.entry.settings in let cs = decode_all self.entry.classes.now in
+            (w : ℕ) → RowAfter s cs w after.now → next ≡ least_from s cs (i + 1) w → result ≡ least_from s cs i w }
+    {
+        if self.classes[i] != OVER {
+            return next;
+        }
+        let later = self.least_inside(after, i + 1);
+        after[i + 1].min(later).saturating_add(1)
     }
-    Filled {
-        after,
-        first,
-        thrift,
-    }
-}
 
-// What comes after a window, where w windows are left, from the row for so many.
-fn last_row(settings: Settings, classes: &[u8], w: u16) -> [u16; PLACES]
-    requires { length classes.now ≤ limit }
-    ensures { RowAfter settings (decode_all classes.now) (w + 1) result }
-{
-    let filled = fill_rows(settings, classes, w);
-    let after = filled.after;
-    let row = next_row(settings, classes, &after);
-    after_window(settings, classes, &row)
-}
-
-// The least counts, read off the rows.
-fn counts_of_rows(settings: Settings, classes: &[u8]) -> LeastCounts
-    requires { length classes.now ≤ limit }
-    ensures { Counted settings (decode_all classes.now) result }
-{
-    let most = settings.windows.most;
-    let last = fill_rows(settings, classes, most);
-    let after = last.after;
-    let row = next_row(settings, classes, &after);
-    let covered = row[0];
-    LeastCounts {
-        windows: last.first,
-        thrift: thrift_after(last.first, most, last.thrift, covered),
-        covered,
+    // A row of least counts, computed from the row `after` of what comes after a window.
+    fn next_row(self, after: &[u16; PLACES]) -> [u16; PLACES]
+        ensures { let s = self.entry.settings in let cs = decode_all self.entry.classes.now in
+            (w : ℕ) → RowAfter s cs w after.now → Row s cs w result }
+    {
+        let mut row = [0; PLACES];
+        for i in (0..self.classes.len()).rev() {
+            row[i] = self.least_from(after, i, row[i + 1]);
+        }
+        row
     }
-}
 
-// The number of slots, or LIMIT if that is smaller: as many as a row has places for.
-fn at_most_limit(n: usize) -> usize
-    ensures { result ≡ min n limit }
-{
-    if n > LIMIT {
-        return LIMIT;
+    // What comes after a window, from a row of least counts: leaving slots uncovered costs nothing, so that the settle
+    // count only keeps a window from closing where one of the next slots must be over.
+    fn after_window(self, row: &[u16; PLACES]) -> [u16; PLACES]
+        ensures { let s = self.entry.settings in let cs = decode_all self.entry.classes.now in
+            (w : ℕ) → Row s cs w row.now → RowAfter s cs (w + 1) result }
+    {
+        let mut after = [0; PLACES];
+        let mut lack = 0;
+        for i in (0..self.classes.len()).rev() {
+            lack = lacking(self.settings.shape.settle, self.classes[i], lack);
+            after[i] = unless_lacking(lack, row[i]);
+        }
+        after
     }
-    n
+
+    // The rows for fewer than w windows, of which only the last is kept.
+    fn fill_rows(self, w: u16) -> Filled
+        ensures { let s = self.entry.settings in let cs = decode_all self.entry.classes.now in
+            RowAfter s cs w result.after × (result.first ≡ first_below s cs w) × (result.thrift ≡ thrift_below s cs w) }
+    {
+        let mut after = [NO_PLAN; PLACES];
+        let mut first = 0;
+        let mut thrift = NO_PLAN;
+        for v in 0..w {
+            let row = self.next_row(&after);
+            let count = row[0];
+            after = self.after_window(&row);
+            thrift = thrift_after(first, v, thrift, count);
+            first += u16::from(count > self.settings.covered.most);
+        }
+        Filled {
+            after,
+            first,
+            thrift,
+        }
+    }
+
+    // What comes after a window, where w windows are left, from the row for so many.
+    fn last_row(self, w: u16) -> [u16; PLACES]
+        ensures { RowAfter self.entry.settings (decode_all self.entry.classes.now) (w + 1) result }
+    {
+        let row = self.next_row(&self.fill_rows(w).after);
+        self.after_window(&row)
+    }
+
+    // The least counts, read off the rows.
+    fn least_counts(self) -> LeastCounts
+        ensures { Counted self.entry.settings (decode_all self.entry.classes.now) result }
+    {
+        let most = self.settings.windows.most;
+        let last = self.fill_rows(most);
+        let covered = self.next_row(&last.after)[0];
+        LeastCounts {
+            windows: last.first,
+            thrift: thrift_after(last.first, most, last.thrift, covered),
+            covered,
+        }
+    }
 }
 
 // What comes after a window, where at most w windows are left after it: at the place of each of the first LIMIT
@@ -293,8 +228,7 @@ fn at_most_limit(n: usize) -> usize
 pub fn row_after(settings: Settings, classes: &[u8], w: u16) -> [u16; PLACES]
     ensures { RowAfter settings (decode_all (take limit classes.now)) (w + 1) result }
 {
-    let n = at_most_limit(classes.len());
-    last_row(settings, &classes[..n], w)
+    Slots::first(settings, classes).last_row(w)
 }
 
 // The least counts of the first LIMIT slots, as `LeastCounts` says. The settings are not checked:
@@ -302,6 +236,5 @@ pub fn row_after(settings: Settings, classes: &[u8], w: u16) -> [u16; PLACES]
 pub fn least_counts(settings: Settings, classes: &[u8]) -> LeastCounts
     ensures { Counted settings (decode_all (take limit classes.now)) result }
 {
-    let n = at_most_limit(classes.len());
-    counts_of_rows(settings, &classes[..n])
+    Slots::first(settings, classes).least_counts()
 }

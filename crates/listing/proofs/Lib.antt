@@ -2,5 +2,5 @@ pub mod Cases
 pub mod Decimals
 mod Fields
 mod Lengths
-mod Signs
+mod Numerals
 mod SlotLinesLoop

@@ -3,21 +3,22 @@
 
 ghost use Rattle.std.specs.Prelude.{◌≤◌, length};
 ghost use Rattle.settings.specs.Refusals.{limit};
-ghost use Rattle.listing.specs.Text.{text, max_length};
+ghost use Rattle.listing.specs.Text.{text, refusal_line, max_length};
 ghost use Rattle.buffer.specs.Written.{Written};
 ghost use Rattle.filter.specs.AnswerMeaning.{outcome_of};
 
-use filter::Answer;
+use crate::put::Text;
+use refusals::Refusal;
+use requests::PlanCounts;
 
 mod lines;
 mod put;
 
-pub use lines::write_refusal;
-
 // Writes the text of what the filter handed back, and gives its length. Where the buffer is too short, it writes what
 // fits and gives the length of the buffer.
+#[tactic(auto, unfolding(crate::specs::Text::text))]
 pub fn write_answer(
-    answer: Answer,
+    answer: Result<Option<PlanCounts>, Refusal>,
     lowest: &[i32],
     highest: &[i32],
     marks: &[u8],
@@ -30,9 +31,17 @@ pub fn write_answer(
         length (text (outcome_of answer lowest.now highest.now marks.now))
         ≤ max_length }
 {
-    match answer {
-        Answer::Refused(refusal) => write_refusal(refusal, out),
-        Answer::NoPlan => lines::no_plan(out),
-        Answer::Planned(counts) => lines::planned(counts, lowest, highest, marks, out),
-    }
+    let mut text = Text { out, place: 0 };
+    text.answer(answer, lowest, highest, marks);
+    text.place
+}
+
+// Writes the line of a refusal, such as that of a card that the reader refuses, and gives its length.
+pub fn write_refusal(refusal: Refusal, out: &mut [u8]) -> usize
+    ensures written { Written (refusal_line refusal) 0 out.old out.new result }
+    ensures short { length (refusal_line refusal) ≤ max_length }
+{
+    let mut text = Text { out, place: 0 };
+    text.refusal_line(refusal);
+    text.place
 }

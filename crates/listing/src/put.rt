@@ -1,49 +1,38 @@
-// Words and numbers, written into a lent buffer from a place on, as `put_byte` of `buffer` writes bytes.
+// A text in the making, in a lent buffer.
 ghost use Rattle.std.specs.Prelude.{[], ◌∷◌, ◌++◌};
-ghost use Rattle.buffer.specs.Written.{Written};
-ghost use Rattle.listing.specs.Text.{decimal as Text·decimal, signed as Text·signed};
+ghost use Rattle.listing.specs.Adds.{Adds};
 
-use buffer::put_byte;
+use buffer::put_bytes;
+use itoa::{Buffer, Integer};
 
-// The digits of n / 10, where n has more than one digit, and the last digit.
-fn decimal(n: u64, out: &mut [u8], place: usize) -> usize
-    ensures { Written (Text·decimal n) place out.old out.new result }
-{
-    if n < 10 {
-        return put_byte(b'0' + n as u8, out, place);
-    }
-    let last = decimal(n / 10, out, place);
-    put_byte(b'0' + (n % 10) as u8, out, last)
+// What is written next goes to this place of the buffer. No `fmt::Write`, tried: the promise of a `write!` is for where
+// it gave `Ok`, and that it does, with a writer that takes what fits and never fails, no clause says.
+#[derive(Drop)]
+pub(crate) struct Text<'a> {
+    pub(crate) out: &'a mut [u8],
+    pub(crate) place: usize,
 }
 
-// A number and the byte that ends its field.
-pub(crate) fn number(n: u64, end: u8, out: &mut [u8], place: usize) -> usize
-    ensures { Written (Text·decimal n ++ (end ∷ [])) place out.old out.new result }
-{
-    let next = decimal(n, out, place);
-    put_byte(end, out, next)
-}
-
-// A signed number, with a minus sign where it is negative, and the byte that ends its field.
-pub(crate) fn signed(x: i32, end: u8, out: &mut [u8], place: usize) -> usize
-    ensures { Written (Text·signed x ++ (end ∷ [])) place out.old out.new result }
-{
-    if x < 0 {
-        let digits = put_byte(b'-', out, place);
-        return number((!x) as u64 + 1, end, out, digits);
+impl Text<'_> {
+    // A number and the byte that ends its field.
+    pub(crate) fn number<I: Integer>(&mut self, n: I, end: u8)
+        ensures { Adds (I.text n ++ (end ∷ [])) self.old self.new }
+    {
+        let mut digits = Buffer::new();
+        self.word(digits.format(n).as_bytes(), end)
     }
-    number(x as u64, end, out, place)
-}
 
-// A word and the byte that ends its field.
-pub(crate) fn word(text: &[u8], end: u8, out: &mut [u8], place: usize) -> usize
-    ensures { Written (text.now ++ (end ∷ [])) place out.old out.new result }
-{
-    let mut next = place;
-    let mut i = 0;
-    while i < text.len() {
-        next = put_byte(text[i], out, next);
-        i += 1;
+    // A word and the byte that ends its field.
+    pub(crate) fn word(&mut self, word: &[u8], end: u8)
+        ensures { Adds (word.now ++ (end ∷ [])) self.old self.new }
+    {
+        self.bytes(word);
+        self.bytes(&[end])
     }
-    put_byte(end, out, next)
+
+    fn bytes(&mut self, bytes: &[u8])
+        ensures { Adds bytes.now self.old self.new }
+    {
+        self.place = put_bytes(bytes, self.out, self.place);
+    }
 }

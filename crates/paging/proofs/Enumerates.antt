@@ -11,7 +11,7 @@ use Rattle.rule.proofs.Order.{none_before}
 use Rattle.rule.specs.Order.{◌≺◌}
 use Rattle.paging.proofs.MarksRise.{value, value-rises, top, below_top}
 use Rattle.paging.proofs.NextIsFirst.{plan-length, plan-small, no_further, next-first}
-use Rattle.paging.proofs.PartingLoops.{search-parting}
+use Rattle.paging.proofs.PartingSearch.{search-parting}
 use Rattle.paging.proofs.Passes.{passed→passes}
 use Rattle.paging.specs.Pages.{Pages, end, page, Rising, ◌∈◌, here, there, Enumerates}
 use Rattle.paging.specs.Paging.{page_limit, call_of, PlanAfter, NextPlan, Accepted}
@@ -58,9 +58,9 @@ module _ (r : Request) where
       all_left : top (slots r) < calls → Left calls []
       some_left : {given : List ℕ} → PlanOf r given → top (slots r) ≤ calls + value 0 given → Left calls given
 
-    as_long : {calls : ℕ} {given : List ℕ} → Left calls given → (length given ≡ 0) ⊎ (length given ≡ slots r)
-    as_long (all_left e) = inl refl
-    as_long (some_left p e) = inr (plan-length r good p)
+    as_long : {calls : ℕ} {given : List ℕ} → Left calls given → (length given ≡ 0 → ⊥) → length given ≡ slots r
+    as_long (all_left e) some = absurd (some refl)
+    as_long (some_left p e) some = plan-length r good p
 
     given-plan : {calls : ℕ} {given : List ℕ} → Left calls given → (given ≡ []) ⊎ PlanOf r given
     given-plan (all_left e) = inl refl

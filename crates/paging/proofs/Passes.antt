@@ -2,10 +2,9 @@
 use Prim.Native.Nat.{ℕ, ◌≤◌}
 use mathlib.Core.Bool.{Bool, true, false, not, ◌&&◌, ◌||◌}
 use mathlib.Core.List.{List}
-use mathlib.Core.Logic.{◌⊎◌, inl, inr}
 use mathlib.Core.Option.{none}
 use mathlib.Core.Path.{◌≡◌, refl}
-use borrow.Author.Tests.{ltb-false, le-ltb, eqb-true, eq-eqb}
+use borrow.Author.Tests.{ltb-false, le-ltb, eqb-false, ne_eqb}
 use lib.Dec.{eqb}
 use lib.ListN.{length, take}
 use Rattle.drawing.proofs.OfRequest.{by_codes}
@@ -18,21 +17,17 @@ use Rattle.requests.specs.Request.{Request, slots, request_refusal, filter_refus
 use Rattle.requests.specs.Solution.{classes}
 use Rattle.settings.proofs.Accepted.{accepted-iff, differs_false}
 use Rattle.settings.specs.Refusals.{differs, refusal, lengths_refusal}
-use Rattle.paging.specs.Paging.{page_limit, Call, too_many_slots, marks_differ, checks_refusal, checked}
+use Rattle.paging.specs.Paging.{page_limit, Call, too_many_slots, marks_differ, checks_refusal, checked, Accepted}
 use Rattle.paging.specs.Parting.{Ready}
 
 pub record Passed (q : Call) : Type 0 where
   pub formed : Formed q.request
   pub short : slots q.request ≤ page_limit
-  pub as_long : (length q.given ≡ 0) ⊎ (length q.given ≡ slots q.request)
+  pub as_long : (length q.given ≡ 0 → ⊥) → length q.given ≡ slots q.request
 
 -- the empty slice is exempt
-exempt : (n given : ℕ) → (not (eqb given 0) && differs n given) ≡ false → (given ≡ 0) ⊎ (given ≡ n)
-exempt n given e = by (eqb given 0) refl e
-  where
-    by : (b : Bool) → eqb given 0 ≡ b → (not b && differs n given) ≡ false → (given ≡ 0) ⊎ (given ≡ n)
-    by true zero e = inl (eqb-true given 0 zero)
-    by false some e = inr ((differs_false n given).0 e)
+exempt : (n given : ℕ) → (not (eqb given 0) && differs n given) ≡ false → (given ≡ 0 → ⊥) → given ≡ n
+exempt n given e some = (differs_false n given).0 (rw (ne_eqb given 0 some) at e)
 
 pub passes→passed : (q : Call) → checked q ≡ none → Passed q
 unfolding checks_refusal too_many_slots marks_differ
@@ -54,19 +49,21 @@ passes→passed q e =
       as_long = exempt (slots r) (length q.given) given;
     }
 
-exempted : (n given : ℕ) → (given ≡ 0) ⊎ (given ≡ n) → (not (eqb given 0) && differs n given) ≡ false
-exempted n given (inl zero) = rw (eq-eqb given 0 zero)
-exempted n given (inr same) = rw ((differs_false n given).1 same) (by (eqb given 0))
+exempted : (n given : ℕ) → ((given ≡ 0 → ⊥) → given ≡ n) → (not (eqb given 0) && differs n given) ≡ false
+exempted n given as_long = by (eqb given 0) refl
   where
-    by : (b : Bool) → (not b && false) ≡ false
-    by true = refl
-    by false = refl
+    by : (b : Bool) → eqb given 0 ≡ b → (not b && differs n given) ≡ false
+    by true zero = refl
+    by false some = (differs_false n given).1 (as_long (eqb-false given 0 some))
 
 -- no check of lengths refuses what no check of a request does
 lengths-pass : (r : Request) (different : Bool) → request_refusal r.settings r.lowest r.highest different ≡ none →
     lengths_refusal (slots r) (differs (slots r) (length r.highest) || different) ≡ none
 unfolding request_refusal refusal
 lengths-pass r different e = (first-none-check _ _ (first-none-check _ _ e).0).0
+
+pub accepted→passed : {q : Call} → Accepted q → Passed q
+accepted→passed {q} a = passes→passed q a.passes
 
 pub passed→passes : (q : Call) → Passed q → checked q ≡ none
 unfolding checks_refusal too_many_slots marks_differ first row filter_refusal

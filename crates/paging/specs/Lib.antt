@@ -1,4 +1,3 @@
 pub mod Paging
 pub mod Pages
-pub mod PageMeaning
 pub mod Parting

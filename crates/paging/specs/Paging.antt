@@ -9,6 +9,8 @@ use Rattle.rule.specs.Order.{◌≺◌, First}
 use Rattle.settings.specs.Refusals.{differs, lengths_refusal}
 use Rattle.settings.specs.declared.Settings.{Settings}
 use Rattle.requests.specs.Request.{Request, request_of, request_refusal, PlanOf}
+use Rattle.paging.specs.declared.Page.{Page}
+pub use Rattle.paging.specs.declared.Page.TheVariants.{Next as next, End as no_further}
 
 -- "Up to 12 slots"
 abbrev pub page_limit : ℕ
@@ -72,9 +74,8 @@ abbrev pub NoFurther : Request → (given : List ℕ) → Type 0
 NoFurther r given = (ms : List ℕ) → PlanAfter r given ms → ⊥
 
 -- the result for a call that is not refused
-pub data Result : Type 0 where
-  next : Result
-  no_further : Result
+abbrev pub Result : Type 0
+Result = Page
 
 -- What is promised with each answer, where the lent slice holds ms then: it is unaltered by refusals and at the end. The
 -- loads are only read.

@@ -50,6 +50,12 @@ partings n given = min (suc given) n
 abbrev pub NonePartsFrom : (parts : ℕ → ℕ → Bool) (j end : ℕ) → Type 0
 NonePartsFrom parts j end = (i m : ℕ) → j ≤ i → i < end → m < 4 → parts i m ≡ false
 
+-- a plan parts with mark m, and none with a smaller one
+pub record FirstParting (parts : ℕ → Bool) (m : ℕ) : Type 0 where
+  pub mark : m < 4
+  pub here : parts m ≡ true
+  pub smaller : (k : ℕ) → k < m → parts k ≡ false
+
 -- a plan parts at slot j with mark m, none with a smaller mark, and none later
 pub record LastParting (parts : ℕ → ℕ → Bool) (end j m : ℕ) : Type 0 where
   pub there : j < end

@@ -3,15 +3,13 @@
 #![tactic(auto)]
 
 ghost use Rattle.std.specs.Prelude.{◌≡◌};
-ghost use Rattle.refusals.specs.Answer.{meaning as Checked·meaning};
-ghost use Rattle.paging.specs.PageMeaning.{meaning};
+ghost use Rattle.refusals.specs.Answer.{gives, refusal_of};
 ghost use Rattle.paging.specs.Paging.{call_of, checks_refusal, marks_differ, too_many_slots, Accepted, Turns};
 
-use crate::parting::{last_parting, parted};
-use crate::plans::no_plan_given;
+use crate::parting::{Search, parted};
 use checks::check_request;
 use drawing::{classify, complete};
-use refusals::{Checked, Refusal};
+use refusals::Refusal;
 use settings::{Settings, check_lengths, differ};
 
 mod parting;
@@ -20,10 +18,9 @@ mod plans;
 // The most slots of a request whose plans are paged through.
 pub const PAGE_LIMIT: usize = 12;
 
-// What a call gives.
-#[derive(Clone, Copy)]
+// What a call gives that is not refused: the next plan was written, or there is no further one.
+#[derive(Clone, Copy, Debug, PartialEq, Eq)]
 pub enum Page {
-    Refused(Refusal),
     Next,
     End,
 }
@@ -36,53 +33,52 @@ pub fn next_plan(
     highest: &[i32],
     given: &[u8],
     marks: &mut [u8],
-) -> Page
-    ensures { Turns
-        (call_of settings lowest.now highest.now given.now marks.old)
-        (meaning result) marks.new }
+) -> Result<Page, Refusal>
+    ensures { Turns (call_of settings lowest.now highest.now given.now marks.old) result marks.new }
 {
-    let checked = check_call(settings, lowest, highest, given.len(), marks.len());
-    if let Checked::Refused(refusal) = checked {
-        return Page::Refused(refusal);
+    check_call(settings, lowest, highest, given.len(), marks.len())?;
+    let codes = classify(settings.k, lowest, highest);
+    let search = Search {
+        settings,
+        lowest,
+        highest,
+        codes: &codes[..lowest.len()],
+        given,
+    };
+    if search.no_plan_given() {
+        return Err(Refusal::GivenPlan);
     }
-    if no_plan_given(settings, lowest, highest, given) {
-        return Page::Refused(Refusal::GivenPlan);
-    }
-    turn(settings, lowest, highest, given, marks)
+    Ok(turn(&search, marks))
 }
 
-// Every check but that of the given plan, of which it takes the length only.
+// Every check but that of the given plan, of which it takes the length only. Settings and loads stand apart, as in
+// `next_plan`, whose signature is fixed: `Search` holds what has passed.
 fn check_call(
     settings: Settings,
     lowest: &[i32],
     highest: &[i32],
     given: usize,
     marks: usize,
-) -> Checked
-    ensures { Checked·meaning result
-        ≡ checks_refusal settings lowest.now highest.now given marks }
+) -> Result<(), Refusal>
+    ensures { refusal_of result ≡ checks_refusal settings lowest.now highest.now given marks }
 {
     let n = lowest.len();
     let different = marks_differ(n, given, marks);
-    let lengths = check_lengths(n, differ(n, highest.len()) | different);
-    if let Checked::Refused(refusal) = lengths {
-        return Checked::Refused(refusal);
-    }
+    check_lengths(n, differ(n, highest.len()) | different)?;
     if too_many_slots(n) {
-        return Checked::Refused(Refusal::PagedSlots);
+        return Err(Refusal::PagedSlots);
     }
     check_request(settings, lowest, highest, different)
 }
 
+#[tactic(auto, unfolding(crate::specs::Paging::marks_differ))]
 fn marks_differ(n: usize, given: usize, marks: usize) -> bool
     ensures { result ≡ marks_differ n given marks }
 {
-    if given == 0 {
-        return differ(n, marks);
-    }
-    differ(n, given) | differ(n, marks)
+    given != 0 && differ(n, given) || differ(n, marks)
 }
 
+#[tactic(auto, unfolding(crate::specs::Paging::too_many_slots))]
 fn too_many_slots(n: usize) -> bool
     ensures { result ≡ too_many_slots n }
 {
@@ -90,20 +86,16 @@ fn too_many_slots(n: usize) -> bool
 }
 
 // The next plan for a call that is not refused.
-fn turn(settings: Settings, lowest: &[i32], highest: &[i32], given: &[u8], marks: &mut [u8]) -> Page
-    requires { Accepted (call_of settings lowest.now highest.now given.now marks.old) }
-    ensures { Turns
-        (call_of settings lowest.now highest.now given.now marks.old)
-        (meaning result) marks.new }
+fn turn(search: &Search, marks: &mut [u8]) -> Page
+    requires { Accepted (call_of search.now.settings search.now.lowest.now search.now.highest.now
+        search.now.given.now marks.old) }
+    ensures { Turns (call_of search.now.settings search.now.lowest.now search.now.highest.now
+        search.now.given.now marks.old) (gives result) marks.new }
 {
-    let n = lowest.len();
-    let codes = classify(settings.k, lowest, highest);
-    let at = last_parting(settings, lowest, highest, &codes[..n], given);
-    if at.mark > 3 {
+    let Some(at) = search.last_parting() else {
         return Page::End;
-    }
-    let front = parted(given, at.slot, at.mark);
-    let length = at.slot + 1;
-    complete(settings, &codes[..n], &front[..length], marks);
+    };
+    let front = parted(search.given, at);
+    complete(search.settings, search.codes, &front[..at.slot + 1], marks);
     Page::Next
 }

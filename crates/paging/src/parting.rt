@@ -1,162 +1,110 @@
 // Where the next plan parts from the given marks: the last slot at which a larger mark still has a plan. That is
 // so if the first plan that begins with this mark, drawn, is one.
-ghost use Rattle.std.specs.Prelude.{true, false, ◌≡◌, ℕ, ◌+◌, ◌≤◌, ◌<◌, length, take};
-ghost use Rattle.rule.specs.ClassCodes.{decode_all};
+ghost use Rattle.std.specs.Prelude.{false, ◌≡◌, ℕ, ◌+◌, ◌≤◌, ◌<◌, length, take, MatchOption};
 ghost use Rattle.requests.specs.Solution.{classes_of, completed};
 ghost use Rattle.paging.specs.Paging.{page_limit};
-ghost use Rattle.paging.specs.Parting.{Ready, is_plan, above, partings, NonePartsFrom, LastParting};
-ghost use Rattle.paging.specs.Parting.{parts as Parting·parts, parted as Parting·parted};
+ghost use Rattle.paging.specs.Parting.{Ready, is_plan, above, partings, NonePartsFrom, FirstParting, LastParting};
+ghost use Rattle.paging.specs.Parting.{parts, parted};
 
 use crate::PAGE_LIMIT;
-use crate::plans::is_plan;
 use drawing::complete;
 use settings::Settings;
 
-// A slot, and the mark with which a plan parts there; 4 where there is none.
+// Where marks part from the given ones: a slot, and the mark that they have there.
 #[derive(Clone, Copy)]
 pub struct Parting {
     pub slot: usize,
     pub mark: u8,
 }
 
-// The first `slot` of the given marks and this mark after them; what comes later plays no part.
-pub(crate) fn parted(given: &[u8], slot: usize, mark: u8) -> [u8; PAGE_LIMIT]
-    requires { (slot ≤ length given.now) × (slot < page_limit) }
+// A request that passes its checks, with the bytes that stand for its classes, and the marks that are given.
+#[derive(Clone, Copy)]
+pub(crate) struct Search<'a> {
+    pub settings: Settings,
+    pub lowest: &'a [i32],
+    pub highest: &'a [i32],
+    pub codes: &'a [u8],
+    pub given: &'a [u8],
+    ghost ready: { Ready settings lowest.now highest.now codes.now },
+    ghost as_long: { (length given.now ≡ 0 → ⊥) → length given.now ≡ length lowest.now },
+}
+
+impl Search<'_> {
+    // The last slot at which a plan parts from the given marks, and the smallest mark with which one does.
+    pub(crate) fn last_parting(&self) -> Option<Parting>
+        ensures { MatchOption result
+            (NonePartsFrom (parts self.now.settings self.now.lowest.now self.now.highest.now self.now.given.now)
+            0 (partings (length self.now.lowest.now) (length self.now.given.now)))
+            (λ at. LastParting
+            (parts self.now.settings self.now.lowest.now self.now.highest.now self.now.given.now)
+            (partings (length self.now.lowest.now) (length self.now.given.now)) at.slot at.mark) }
+    {
+        let slots = self.lowest.len().min(self.given.len() + 1);
+        for slot in (0..slots).rev() {
+            if let Some(mark) = self.parting_mark(slot) {
+                return Some(Parting { slot, mark });
+            }
+        }
+        None
+    }
+
+    // The smallest mark with which a plan parts at a slot.
+    fn parting_mark(&self, slot: usize) -> Option<u8>
+        requires { slot < partings (length self.now.lowest.now) (length self.now.given.now) }
+        ensures { MatchOption result
+            ((m : ℕ) → m < 4 → parts self.now.settings self.now.lowest.now self.now.highest.now
+            self.now.given.now slot m ≡ false)
+            (FirstParting (parts self.now.settings self.now.lowest.now self.now.highest.now
+            self.now.given.now slot)) }
+    {
+        (0..4).find(|mark| self.parts(Parting { slot, mark: *mark }))
+    }
+
+    // Whether a plan after the given marks parts from them there.
+    #[tactic(auto, unfolding(crate::specs::Parting::parts))]
+    fn parts(&self, at: Parting) -> bool
+        requires { at.slot < partings (length self.now.lowest.now) (length self.now.given.now) }
+        ensures { result ≡ parts self.now.settings self.now.lowest.now self.now.highest.now
+            self.now.given.now at.slot at.mark }
+    {
+        if !self.is_above(at) {
+            return false;
+        }
+        let front = parted(self.given, at);
+        self.begins_plan(&front[..at.slot + 1])
+    }
+
+    // Whether the mark comes after what is given at its slot.
+    #[tactic(auto, unfolding(crate::specs::Parting::above))]
+    fn is_above(&self, at: Parting) -> bool
+        ensures { result ≡ above self.now.given.now at.slot at.mark }
+    {
+        self.given.get(at.slot).is_none_or(|given| *given < at.mark)
+    }
+
+    // Whether what is drawn for the front is a plan: if any plan begins with it, this one is.
+    fn begins_plan(&self, front: &[u8]) -> bool
+        ensures { result ≡ is_plan self.now.settings self.now.lowest.now self.now.highest.now
+            (completed self.now.settings
+            (classes_of self.now.settings.k self.now.lowest.now self.now.highest.now) front.now) }
+    {
+        // The first of an array of the most, since `complete` writes into a lent slice, and there is no heap.
+        let mut memory = [0; PAGE_LIMIT];
+        let marks = &mut memory[..self.lowest.len()];
+        complete(self.settings, self.codes, front, marks);
+        self.is_plan(marks)
+    }
+}
+
+// The given marks as far as the slot, with the mark there; what comes later plays no part. A list of fixed capacity would
+// be no plainer than the array: what puts into one has an error that cannot come here.
+pub(crate) fn parted(given: &[u8], at: Parting) -> [u8; PAGE_LIMIT]
+    requires { (at.slot ≤ length given.now) × (at.slot < page_limit) }
     ensures { (length result ≡ page_limit)
-        × (take (slot + 1) result ≡ Parting·parted given.now slot mark) }
+        × (take (at.slot + 1) result ≡ parted given.now at.slot at.mark) }
 {
-    let mut front = [0u8; PAGE_LIMIT];
-    let mut i = 0;
-    while i < slot {
-        front[i] = given[i];
-        i += 1;
-    }
-    front[slot] = mark;
+    let mut front = [0; PAGE_LIMIT];
+    front[..at.slot].copy_from_slice(&given[..at.slot]);
+    front[at.slot] = at.mark;
     front
-}
-
-// The first plan that begins with the front, if there is one; what comes after the last slot plays no part.
-fn drawn(settings: Settings, codes: &[u8], front: &[u8]) -> [u8; PAGE_LIMIT]
-    requires { length codes.now ≤ page_limit }
-    ensures { (length result ≡ page_limit) × (take (length codes.now) result
-        ≡ completed settings (decode_all codes.now) front.now) }
-{
-    let mut marks = [0u8; PAGE_LIMIT];
-    complete(settings, codes, front, &mut marks);
-    marks
-}
-
-// Whether what is drawn for the front is a plan: if any plan begins with it, this one is.
-fn begins_plan(
-    settings: Settings,
-    lowest: &[i32],
-    highest: &[i32],
-    codes: &[u8],
-    front: &[u8],
-) -> bool
-    requires { Ready settings lowest.now highest.now codes.now }
-    ensures { result ≡ is_plan settings lowest.now highest.now
-        (completed settings (classes_of settings.k lowest.now highest.now)
-        front.now) }
-{
-    let marks = drawn(settings, codes, front);
-    let n = lowest.len();
-    is_plan(settings, lowest, highest, &marks[..n])
-}
-
-// Whether a mark comes after what is given at a slot.
-fn is_above(given: &[u8], slot: usize, mark: u8) -> bool
-    ensures { result ≡ above given.now slot mark }
-{
-    if slot < given.len() {
-        return given[slot] < mark;
-    }
-    true
-}
-
-// Whether a plan after the given marks parts from them at a slot with this mark.
-fn parts(
-    settings: Settings,
-    lowest: &[i32],
-    highest: &[i32],
-    codes: &[u8],
-    given: &[u8],
-    slot: usize,
-    mark: u8,
-) -> bool
-    requires { Ready settings lowest.now highest.now codes.now
-        × (slot ≤ length given.now) × (slot < page_limit) }
-    ensures { result ≡ Parting·parts settings lowest.now highest.now given.now
-        slot mark }
-{
-    if !is_above(given, slot, mark) {
-        return false;
-    }
-    let front = parted(given, slot, mark);
-    let length = slot + 1;
-    begins_plan(settings, lowest, highest, codes, &front[..length])
-}
-
-// The smallest mark with which a plan parts at a slot; 4 if there is none.
-fn parting_mark(
-    settings: Settings,
-    lowest: &[i32],
-    highest: &[i32],
-    codes: &[u8],
-    given: &[u8],
-    slot: usize,
-) -> u8
-    requires { Ready settings lowest.now highest.now codes.now
-        × (slot ≤ length given.now) × (slot < page_limit) }
-    ensures { (result ≤ 4)
-        × ((m : ℕ) → m < result → Parting·parts settings lowest.now highest.now given.now
-        slot m ≡ false)
-        × (result < 4 → Parting·parts settings lowest.now highest.now given.now slot result
-        ≡ true) }
-{
-    let mut mark = 0;
-    while mark < 4 {
-        if parts(settings, lowest, highest, codes, given, slot, mark) {
-            return mark;
-        }
-        mark += 1;
-    }
-    mark
-}
-
-// The last slot at which a plan parts from the given marks, and the smallest mark with which one does.
-pub(crate) fn last_parting(
-    settings: Settings,
-    lowest: &[i32],
-    highest: &[i32],
-    codes: &[u8],
-    given: &[u8],
-) -> Parting
-    requires { Ready settings lowest.now highest.now codes.now }
-    ensures { (result.mark < 4 →
-        LastParting (Parting·parts settings lowest.now highest.now given.now)
-        (partings (length lowest.now) (length given.now)) result.slot result.mark)
-        × (4 ≤ result.mark →
-        NonePartsFrom (Parting·parts settings lowest.now highest.now given.now)
-        0 (partings (length lowest.now) (length given.now))) }
-{
-    let mut slot = slots_to_try(lowest.len(), given.len());
-    while slot > 0 {
-        slot -= 1;
-        let mark = parting_mark(settings, lowest, highest, codes, given, slot);
-        if mark < 4 {
-            return Parting { slot, mark };
-        }
-    }
-    Parting { slot: 0, mark: 4 }
-}
-
-// How many slots a plan of n slots can part from the given marks at.
-fn slots_to_try(n: usize, given: usize) -> usize
-    ensures { result ≡ partings n given }
-{
-    if given < n {
-        return given + 1;
-    }
-    n
 }

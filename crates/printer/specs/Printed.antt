@@ -1,16 +1,13 @@
 -- What is printed for a file (document 01, "What the plan printer writes").
 use Rattle.std.specs.Prelude.{ℕ, ◌≤◌, List, ◌≡◌, ℤ, pos, length, take, replicate}
 use Rattle.refusals.specs.Answer.{Answer, refuses, gives}
-use Rattle.card.specs.Reading.{Header, reading}
+use Rattle.card.specs.Reading.{reading}
+use Rattle.card.specs.declared.Header.{Header}
 use Rattle.buffer.specs.Written.{Written}
 use Rattle.listing.specs.Text.{text}
 use Rattle.requests.specs.Promise.{Outcome, Keeps}
 use Rattle.requests.specs.Request.{request_of}
 use Rattle.settings.specs.Refusals.{limit}
-
--- how many bytes of standard input are held at most
-abbrev pub held_bytes : ℕ
-held_bytes = 4097
 
 -- the buffer holds the whole text of an outcome of which P holds, and `end` is where the text ends
 pub record Printed (P : Outcome → Type 0) (before after : List ℕ) (end : ℕ) : Type 0 where

@@ -1,17 +1,18 @@
 // The plan printer: reads one form 1 file from standard input and writes its plan to standard output.
 #![tactic(auto)]
 
-ghost use Rattle.std.specs.Prelude.{◌≡◌, ◌≤◌, length};
+ghost use Rattle.std.specs.Prelude.{◌≤◌, length};
 ghost use Rattle.settings.specs.Refusals.{limit};
 ghost use Rattle.requests.specs.Request.{request_of};
 ghost use Rattle.listing.specs.Text.{max_length};
-ghost use Rattle.printer.specs.Printed.{held_bytes, Printed, OfFile, loads, marks as Printed·marks};
+ghost use Rattle.printer.specs.Printed.{Printed, OfFile, loads, marks as Printed·marks};
 ghost use Rattle.requests.specs.Promise.{Keeps};
 
-use card::{Reading, read};
+use arrayvec::ArrayVec;
+use card::{Header, read};
 use filter::filter;
 use settings::{LIMIT, Settings};
-use std::io::Read;
+use std::io::{self, Read};
 
 // How many bytes of a file are held: one more than a file may have, so that a longer one is refused.
 const HELD_BYTES: usize = 4097;
@@ -19,43 +20,19 @@ const HELD_BYTES: usize = 4097;
 // The length of the buffer for the text. Every answer's text fits: `print` asks for at least `max_length` bytes.
 const MAX_LENGTH: usize = 53 + 32 * LIMIT;
 
-// What was read of a file: the first `size` of `bytes`.
-#[derive(Clone, Copy)]
-pub struct Input {
-    pub bytes: [u8; HELD_BYTES],
-    pub size: usize,
-}
-
 fn main(rt: HostRuntime) {
-    let input = read_input(&mut rt.stdin());
-    let size = input.size;
-    let file = input.bytes;
+    let file = read_input(rt.stdin());
+    // An array with a length that comes beside, as the contract of `print` has it.
     let mut text = [0; MAX_LENGTH];
-    let length = print(&file[..size], &mut text);
+    let length = print(&file, &mut text);
     write_output(&rt, &text[..length]);
 }
 
-// Reads an input up to its end, or as much as is held.
-fn read_input(from: &mut impl Read) -> Input
-    ensures { (length result.bytes ≡ held_bytes) × (result.size ≤ held_bytes) }
-{
-    let mut bytes = [0; HELD_BYTES];
-    let size = read_full(from, &mut bytes);
-    Input { bytes, size }
-}
-
-// Reads until the slice is full, the input ends or a read fails, and gives how many bytes it put at the slice's start.
-fn read_full(from: &mut impl Read, out: &mut [u8]) -> usize
-    ensures { result ≤ length out.new }
-{
-    let mut size = 0;
-    while size < out.len() {
-        match from.read(&mut out[size..]) {
-            Ok(0) | Err(_) => break,
-            Ok(n) => size += n,
-        }
-    }
-    size
+// Reads an input up to its end, or as much as is held. A read that fails counts as the end.
+fn read_input(from: impl Read + Drop) -> ArrayVec<u8, HELD_BYTES> {
+    let mut file = ArrayVec::new();
+    let _ = io::copy(&mut from.take(HELD_BYTES as u64), &mut file);
+    file
 }
 
 // Writes to standard output; where that does not take all of it, says so on standard error.
@@ -71,35 +48,20 @@ fn print(file: &[u8], text: &mut [u8]) -> usize
     ensures { Printed (OfFile file.now loads loads Printed·marks) text.old
         text.new result }
 {
+    // Arrays with a length beside: lists cut to n would be no plainer, since what `read` writes then has to be followed
+    // back into each list, by a proof longer than that n fits the arrays.
     let mut lowest = [0i32; LIMIT];
     let mut highest = [0i32; LIMIT];
     let mut marks = [0u8; LIMIT];
-    print_with(file, &mut lowest, &mut highest, &mut marks, text)
-}
-
-// The same, with slices to work in.
-fn print_with(
-    file: &[u8],
-    lowest: &mut [i32],
-    highest: &mut [i32],
-    marks: &mut [u8],
-    text: &mut [u8],
-) -> usize
-    requires lowest_len { (length lowest.old ≡ limit) × (length highest.old ≡ limit) × (length marks.old ≡ limit) }
-    requires max_length_in_bounds { max_length ≤ length text.old }
-    ensures { Printed
-        (OfFile file.now lowest.old highest.old marks.old)
-        text.old text.new result }
-{
-    match read(file, lowest, highest) {
-        Reading::Refused(refusal) => listing::write_refusal(refusal, text),
-        Reading::Taken { settings, n } => print_plan(
+    match read(file, &mut lowest, &mut highest) {
+        Ok(Header { settings, n }) => print_plan(
             settings,
             &mut lowest[..n],
             &mut highest[..n],
             &mut marks[..n],
             text,
         ),
+        Err(refusal) => listing::write_refusal(refusal, text),
     }
 }
 

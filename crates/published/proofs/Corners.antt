@@ -8,7 +8,7 @@ use lib.IntN.{ℤ}
 use lib.ListN.{length, drop}
 use lib.Signed.{◌<ℤ◌}
 use Rattle.rule.proofs.LegalFrom.{legal-length}
-use Rattle.rule.proofs.Tally.{covered_le}
+use Rattle.rule.proofs.Counts.{covered_le}
 use Rattle.rule.specs.Rule.{carries, shaped}
 use Rattle.rule.specs.declared.Shape.{Shape}
 use Rattle.published.proofs.Sets.{Within, ◌∈◌, each, each_to, all, some, which}

@@ -3,11 +3,8 @@ use mathlib.Core.Bool.{Bool, true, false}
 use mathlib.Core.List.{List, [], ◌∷◌}
 use mathlib.Core.Option.{Option, none, some, some-ne-none}
 use mathlib.Core.Path.{◌≡◌, refl}
-use Rattle.refusals.specs.Answer.{meaning}
 use Rattle.refusals.specs.Table.{row, first}
 use Rattle.refusals.specs.declared.Refusal.{Refusal}
-use Rattle.refusals.specs.declared.Checked.{Checked}
-use Rattle.refusals.specs.declared.Checked.TheVariants.{Passed, Refused}
 
 -- b is the result of a row's test, which held or failed
 module _ (r : Refusal) (applies : Bool) (rows : List (Option Refusal)) (b : Bool) (is : b ≡ applies) where
@@ -19,15 +16,15 @@ module _ (r : Refusal) (applies : Bool) (rows : List (Option Refusal)) (b : Bool
   unfolding first row
   row-passes e met = rw (← is, e) met
 
--- `check` is the result for rows that stand as one entry, and it refused or passed
-module _ (rows : Option Refusal) (others : List (Option Refusal)) (check : Checked) (is : meaning check ≡ rows) where
-  pub check-refuses : (r : Refusal) → check ≡ Refused r → some r ≡ first (rows ∷ others)
+-- rows that stand as one entry, of which one applies or none
+module _ (rows : Option Refusal) (others : List (Option Refusal)) where
+  pub check-refuses : (r : Refusal) → some r ≡ rows → some r ≡ first (rows ∷ others)
   unfolding first
-  check-refuses r e = rw (← is, e)
+  check-refuses r e = rw (← e) refl
 
-  pub check-passes : {o : Option Refusal} → check ≡ Passed → o ≡ first others → o ≡ first (rows ∷ others)
+  pub check-passes : {o : Option Refusal} → none ≡ rows → o ≡ first others → o ≡ first (rows ∷ others)
   unfolding first
-  check-passes e met = rw (← is, e) met
+  check-passes e met = rw (← e) met
 
 pub rows_end : none ≡ first []
 unfolding first

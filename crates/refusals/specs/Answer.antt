@@ -1,18 +1,18 @@
 -- An answer is a refusal, with what it carries, or what was asked.
 use Rattle.std.proofs.Math.Option.{Option, none, some}
+use Rattle.std.specs.declared.result.Result.{Result}
 use Rattle.refusals.specs.declared.Refusal.{Refusal}
-use Rattle.refusals.specs.declared.Checked.{Checked}
-use Rattle.refusals.specs.declared.Checked.TheVariants.{Passed, Refused}
+pub use Rattle.std.specs.declared.result.Result.TheVariants.{Ok as gives, Err as refuses}
 
-pub data Answer (A : Type 0) : Type 0 where
-  refuses : Refusal → Answer A
-  gives : A → Answer A
+-- what an operation answers: what was asked, or a refusal
+abbrev pub Answer : Type 0 → Type 0
+Answer A = Result A Refusal
 
 abbrev pub answer : {A : Type 0} → Option Refusal → A → Answer A
 answer (some r) asked = refuses r
 answer none asked = gives asked
 
--- what the result of a check means: no refusal, or the one that applies
-abbrev pub meaning : Checked → Option Refusal
-meaning Passed = none
-meaning (Refused r) = some r
+-- which refusal an answer is, if any
+abbrev pub refusal_of : {A : Type 0} → Answer A → Option Refusal
+refusal_of (gives asked) = none
+refusal_of (refuses r) = some r

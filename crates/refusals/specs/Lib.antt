@@ -1,3 +1,4 @@
 pub mod Answer
 pub mod Numbers
+pub mod Shown
 pub mod Table

@@ -1,14 +1,18 @@
 // Why something is refused. Document 01's numbers are in specs/Numbers.antt.
 #![tactic(auto)]
 
-ghost use Rattle.std.specs.Prelude.{◌≡◌};
+ghost use Rattle.std.specs.Prelude.{◌≡◌, Some};
 ghost use Rattle.refusals.specs.Numbers.{number as Numbers·number, slot as Numbers·slot};
+ghost use Rattle.refusals.specs.Shown.{shown};
+
+use std::error::Error;
+use std::fmt;
 
 // Every refusal, by its number: of a file on the card (11 to 17, then 19), of the writer's buffer (18), of lengths and
 // settings (21 to 27), of settings that form 1 cannot hold (28), of slots (31, which carries the first slot whose
 // lowest load is above its highest), of a step of the watch (32, then 33), of the plans of a request as they are paged
 // through (34, then 35).
-#[derive(Clone, Copy)]
+#[derive(Clone, Copy, Debug, PartialEq, Eq)]
 pub enum Refusal {
     Size,
     End,
@@ -34,14 +38,8 @@ pub enum Refusal {
     GivenPlan,
 }
 
-// What a check gives: all passed, or the first refusal that applies.
-#[derive(Clone, Copy)]
-pub enum Checked {
-    Passed,
-    Refused(Refusal),
-}
-
 impl Refusal {
+    // Document 01's number, which C reads.
     pub fn number(self) -> u16
         ensures { result ≡ Numbers·number self }
     {
@@ -71,13 +69,27 @@ impl Refusal {
         }
     }
 
-    // The slot that a refusal carries, 0 where it carries none.
+    // The slot that a refusal carries, 0 where it carries none, as C reads it.
     pub fn slot(self) -> usize
         ensures { result ≡ Numbers·slot self }
     {
-        if let Refusal::Crossed(slot) = self {
-            return slot;
+        match self {
+            Refusal::Crossed(slot) => slot,
+            _ => 0,
         }
-        0
     }
 }
+
+// Its number, and the slot of 31.
+impl fmt::Display for Refusal {
+    ghost output = { λ r. Some (shown r) };
+
+    fn fmt<W: fmt::Write>(&self, f: &mut fmt::Formatter<W>) -> fmt::Result {
+        match self {
+            Refusal::Crossed(slot) => write!(f, "refused {} slot {slot}", self.number()),
+            _ => write!(f, "refused {}", self.number()),
+        }
+    }
+}
+
+impl Error for Refusal {}

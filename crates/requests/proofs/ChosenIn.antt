@@ -8,7 +8,7 @@ use lib.IntN.{ℤ}
 use lib.ListN.{length, get_or, set}
 use lib.Signed.{◌≤ℤ◌, ≤ℤ_refl}
 use Rattle.facts.proofs.Integers.{≤ℤ-trans, ≤ℤ-antisym}
-use Rattle.facts.proofs.Lists.{map-set}
+use Rattle.std.proofs.lemmas.List.{map-set}
 use Rattle.rule.specs.Ranges.{range, Proper, ChosenIn, Class, class_of}
 use Rattle.rule.specs.declared.Range.{Range}
 use Rattle.requests.specs.Request.{paired, at}

@@ -10,7 +10,7 @@ use lib.ListN.{length, set, length-set}
 use Rattle.rule.proofs.Classes.{allows-2→allows-1, allows-3→allows-0}
 use Rattle.rule.proofs.LegalFrom.{legal-length}
 use Rattle.rule.proofs.Plan.{State, out, on, PlanBy, done, skip, opens, close, more, bridges, legal→plan, plan→legal}
-use Rattle.rule.proofs.Tally.{covered_le}
+use Rattle.rule.proofs.Counts.{covered_le}
 use Rattle.rule.specs.Ranges.{Class, under_only, over_only, allows}
 use Rattle.rule.specs.Rule.{nonzero, goes_with, count_if, windows, covered}
 use Rattle.rule.specs.declared.Shape.{Shape}

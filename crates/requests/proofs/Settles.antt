@@ -14,7 +14,7 @@ use Rattle.rule.proofs.LeastOver.{least-congr}
 use Rattle.rule.proofs.Sides.{lt→over, le→under}
 use Rattle.rule.proofs.LegalFrom.{legal-length}
 use Rattle.settings.proofs.Accepted.{Accepted}
-use Rattle.rule.proofs.Tally.{windows-le}
+use Rattle.rule.proofs.Counts.{windows-le}
 use Rattle.rule.specs.Ranges.{range, under_only, over_only, class_of}
 use Rattle.rule.specs.Rule.{carries, windows, LeastOver}
 use Rattle.requests.proofs.ChosenIn.{paired-set, replaced-proper, replaced-class}

@@ -3,6 +3,8 @@ use Rattle.std.specs.Prelude.{ℕ, ◌<◌, max, true, cond, List, ◌↔◌, �
 use Rattle.std.proofs.Math.Option.{some}
 use Rattle.std.proofs.Math.IntN.{suc_ℤ}
 use Rattle.std.specs.Int.Signed.{lt_z}
+use Rattle.std.specs.declared.option.Option.{Option}
+pub use Rattle.std.specs.declared.option.Option.TheVariants.{None as no_plan, Some as planned}
 use Rattle.refusals.specs.Answer.{Answer, refuses, gives}
 use Rattle.judge.specs.Judgment.{says, judgment}
 use Rattle.rule.specs.Order.{First}
@@ -13,12 +15,13 @@ use Rattle.settings.specs.declared.CountRange.{CountRange}
 use Rattle.settings.specs.declared.Settings.{Settings}
 use Rattle.requests.specs.Request.{Request, slots, paired, at, threshold_at, filter_refusal, WellFormed, PlanOf}
 use Rattle.requests.specs.Request.{LeftAt, Thrift}
+pub use Rattle.requests.specs.declared.Loss.{Loss}
+pub use Rattle.requests.specs.declared.Loss.TheVariants.{Nothing as nothing, Under as under_part, Over as over_part}
 use Rattle.requests.specs.declared.PlanCounts.{PlanCounts}
 
 -- the result for a request that is not refused
-pub data Result : Type 0 where
-  no_plan : Result
-  planned : PlanCounts → Result
+abbrev pub Result : Type 0
+Result = Option PlanCounts
 
 -- all that comes back: the answer, and what the three slices hold afterwards
 pub record Outcome : Type 0 where
@@ -55,11 +58,6 @@ pub record Raised (r : Request) (count : List ℕ → ℕ) (given raised : Count
 
 -- what a slot loses: its under part, so that its lowest load becomes k + 1 if that is larger; its over part, so that
 -- its highest load becomes k if that is smaller; or nothing
-pub data Loss : Type 0 where
-  nothing : Loss
-  under_part : Loss
-  over_part : Loss
-
 abbrev pub lowest_after : ℤ → Loss → ℤ → ℤ
 lowest_after k nothing lo = lo
 lowest_after k under_part lo = cond (lt_z lo (suc_ℤ k)) (suc_ℤ k) lo

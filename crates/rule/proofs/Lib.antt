@@ -1,5 +1,6 @@
 pub mod MarkKinds
 pub mod BridgeCount
+pub mod Counts
 pub mod Classes
 pub mod ClassCodes
 pub mod LeastOver
@@ -10,4 +11,3 @@ pub mod NoWindows
 pub mod LegalFrom
 pub mod Plan
 pub mod Ranges
-pub mod Tally

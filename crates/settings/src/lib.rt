@@ -2,12 +2,12 @@
 #![tactic(auto)]
 
 ghost use Rattle.std.specs.Prelude.{◌≡◌};
-ghost use Rattle.refusals.specs.Answer.{meaning};
+ghost use Rattle.refusals.specs.Answer.{refusal_of};
 ghost use Rattle.settings.specs.Refusals.{refusal, lengths_refusal, shape_refusal, settings_refusal};
 ghost use Rattle.settings.specs.Refusals.{wrong_slots, differs, wrong_length, wrong_bridges};
 ghost use Rattle.settings.specs.Refusals.{wrong_counts, wrong_settle};
 
-use refusals::{Checked, Refusal};
+use refusals::Refusal;
 use rule::Shape;
 
 // The most slots of a plan.
@@ -37,63 +37,62 @@ pub struct Settings {
 }
 
 // Checks the lengths, then the settings.
-pub fn check(settings: Settings, n: usize, different: bool) -> Checked
-    ensures { meaning result ≡ refusal n different settings }
+#[tactic(auto, unfolding(crate::specs::Refusals::refusal, refusals::specs::Table::first))]
+pub fn check(settings: Settings, n: usize, different: bool) -> Result<(), Refusal>
+    ensures { refusal_of result ≡ refusal n different settings }
 {
-    let lengths = check_lengths(n, different);
-    if let Checked::Refused(refusal) = lengths {
-        return Checked::Refused(refusal);
-    }
+    check_lengths(n, different)?;
     check_settings(settings, n)
 }
 
 // Refusals 21 and 22, for a first slice of n entries; `different` says whether another slice has a different length.
-pub fn check_lengths(n: usize, different: bool) -> Checked
-    ensures { meaning result ≡ lengths_refusal n different }
+#[tactic(auto, unfolding(crate::specs::Refusals::lengths_refusal, refusals::specs::Table::first, refusals::specs::Table::row))]
+pub fn check_lengths(n: usize, different: bool) -> Result<(), Refusal>
+    ensures { refusal_of result ≡ lengths_refusal n different }
 {
     if wrong_slots(n) {
-        return Checked::Refused(Refusal::FirstLength);
+        return Err(Refusal::FirstLength);
     }
     if different {
-        return Checked::Refused(Refusal::OtherLength);
+        return Err(Refusal::OtherLength);
     }
-    Checked::Passed
+    Ok(())
 }
 
 // Refusals 23 to 27, for n slots.
-pub fn check_settings(settings: Settings, n: usize) -> Checked
-    ensures { meaning result ≡ settings_refusal n settings }
+#[tactic(auto, unfolding(crate::specs::Refusals::settings_refusal, refusals::specs::Table::first, refusals::specs::Table::row))]
+pub fn check_settings(settings: Settings, n: usize) -> Result<(), Refusal>
+    ensures { refusal_of result ≡ settings_refusal n settings }
 {
-    let shape = check_shape(settings.shape, n);
-    if let Checked::Refused(refusal) = shape {
-        return Checked::Refused(refusal);
-    }
+    check_shape(settings.shape, n)?;
     if wrong_counts(settings.windows, n) {
-        return Checked::Refused(Refusal::WindowCounts);
+        return Err(Refusal::WindowCounts);
     }
     if wrong_counts(settings.covered, n) {
-        return Checked::Refused(Refusal::CoveredCounts);
+        return Err(Refusal::CoveredCounts);
     }
     if wrong_settle(settings.shape.settle) {
-        return Checked::Refused(Refusal::SettleCount);
+        return Err(Refusal::SettleCount);
     }
-    Checked::Passed
+    Ok(())
 }
 
 // Refusals 23 and 24.
-pub fn check_shape(shape: Shape, n: usize) -> Checked
-    ensures { meaning result ≡ shape_refusal n shape }
+#[tactic(auto, unfolding(crate::specs::Refusals::shape_refusal, refusals::specs::Table::first, refusals::specs::Table::row))]
+pub fn check_shape(shape: Shape, n: usize) -> Result<(), Refusal>
+    ensures { refusal_of result ≡ shape_refusal n shape }
 {
     if wrong_length(shape, n) {
-        return Checked::Refused(Refusal::WindowLength);
+        return Err(Refusal::WindowLength);
     }
     if wrong_bridges(shape) {
-        return Checked::Refused(Refusal::Bridges);
+        return Err(Refusal::Bridges);
     }
-    Checked::Passed
+    Ok(())
 }
 
 // Whether another slice has a different length from the first, which has n entries.
+#[tactic(auto, unfolding(crate::specs::Refusals::differs))]
 pub fn differ(n: usize, other: usize) -> bool
     ensures { result ≡ differs n other }
 {
@@ -101,30 +100,35 @@ pub fn differ(n: usize, other: usize) -> bool
 }
 
 // The tests of the table's other rows, in the order of their numbers.
+#[tactic(auto, unfolding(crate::specs::Refusals::wrong_slots))]
 fn wrong_slots(n: usize) -> bool
     ensures { result ≡ wrong_slots n }
 {
     n == 0 || n > LIMIT
 }
 
+#[tactic(auto, unfolding(crate::specs::Refusals::wrong_length))]
 fn wrong_length(shape: Shape, n: usize) -> bool
     ensures { result ≡ wrong_length shape n }
 {
-    shape.len == 0 || shape.len as usize > n
+    shape.len == 0 || usize::from(shape.len) > n
 }
 
+#[tactic(auto, unfolding(crate::specs::Refusals::wrong_bridges))]
 fn wrong_bridges(shape: Shape) -> bool
     ensures { result ≡ wrong_bridges shape }
 {
-    shape.h > 0 && shape.h as usize + 1 >= shape.len as usize
+    shape.h > 0 && usize::from(shape.h) + 1 >= usize::from(shape.len)
 }
 
+#[tactic(auto, unfolding(crate::specs::Refusals::wrong_counts))]
 fn wrong_counts(range: CountRange, n: usize) -> bool
     ensures { result ≡ wrong_counts range n }
 {
-    range.least > range.most || range.most as usize > n
+    range.least > range.most || usize::from(range.most) > n
 }
 
+#[tactic(auto, unfolding(crate::specs::Refusals::wrong_settle))]
 fn wrong_settle(settle: u16) -> bool
     ensures { result ≡ wrong_settle settle }
 {

@@ -2,9 +2,11 @@
 #![tactic(auto)]
 
 ghost use Rattle.std.specs.Prelude.{◌≡◌};
-ghost use Rattle.card.specs.LookUp.{meaning, looking};
+ghost use Rattle.card.specs.LookUp.{looking};
 
-use card::{Found, look_up};
+use card::look_up;
+use refusals::Refusal;
+use rule::Range;
 
 #[derive(Clone, Copy)]
 pub struct View<'a> {
@@ -19,17 +21,16 @@ pub fn view_of<'a>(file: &'a [u8]) -> View<'a>
 
 impl<'a> View<'a> {
     // What look_up answers for the bytes in view.
-    pub fn look_up(self, slot: usize) -> Found
-        ensures { meaning result ≡ looking slot self.entry.file.now }
+    pub fn look_up(self, slot: usize) -> Result<Range, Refusal>
+        ensures { result ≡ looking slot self.entry.file.now }
     {
         look_up(self.file, slot)
     }
 }
 
-// What look_up answers, through a view made for one look-up. A caller of it handles no struct with a reference, and
-// so needs no proof by hand.
-pub fn viewed(file: &[u8], slot: usize) -> Found
-    ensures { meaning result ≡ looking slot file.now }
+// What look_up answers, through a view made for one look-up; it stays beside the method, as it is on the page of demands.
+pub fn viewed(file: &[u8], slot: usize) -> Result<Range, Refusal>
+    ensures { result ≡ looking slot file.now }
 {
     view_of(file).look_up(slot)
 }

@@ -17,7 +17,7 @@ use Rattle.refusals.specs.declared.Refusal.{Refusal}
 use Rattle.refusals.specs.declared.Refusal.TheVariants.{Unreached, Full}
 use Rattle.watch.proofs.LeadsTo.{taken-length}
 use Rattle.watch.proofs.StepAnswers.{codes-differ}
-use Rattle.watch.specs.Promise.{meaning, Steps, Runs, done, stops, continues, RunsFromReached}
+use Rattle.watch.specs.Promise.{Steps, Runs, done, stops, continues, RunsFromReached}
 use Rattle.watch.specs.States.{max_taken, LeadsTo}
 use Rattle.watch.specs.declared.Watch.{Watch}
 use Rattle.watch.specs.declared.step.Stepped.{Stepped}
@@ -25,15 +25,15 @@ use Rattle.watch.specs.declared.step.Stepped.{Stepped}
 -- what a step from such a state answers, at the limit and below it
 module _ {k : ℤ} {len h : ℕ} {xs : List ℤ} {w : Watch} (l : LeadsTo k len h xs w) {x : ℤ} {r : Stepped}
     (s : Steps w x r) where
-  at-limit : length xs ≡ max_taken → meaning r.answer ≡ refuses Full
+  at-limit : length xs ≡ max_taken → r.answer ≡ refuses Full
   at-limit all = s.full.1 ((k, len, h, xs, l), taken-length l ∙ all)
 
-  took-below : {b : Bool} → meaning r.answer ≡ gives b → length xs < max_taken
+  took-below : {b : Bool} → r.answer ≡ gives b → length xs < max_taken
   took-below e =
       let free : (length xs ≡ max_taken → ⊥) = λ all. codes-differ (λ c. omega arith) e (at-limit all) in
       omega (arith, l.few, free)
 
-  refused_full : {q : Refusal} → meaning r.answer ≡ refuses q → (length xs ≡ max_taken) × (q ≡ Full)
+  refused_full : {q : Refusal} → r.answer ≡ refuses q → (length xs ≡ max_taken) × (q ≡ Full)
   refused_full e =
       let full : (length xs < max_taken → ⊥) = λ few. codes-differ (λ c. omega arith) e (s.taken k len h xs l few).1 in
       let all : length xs ≡ max_taken = omega (arith, l.few, full) in

@@ -2,12 +2,10 @@
 use Prim.Native.Nat.{ℕ}
 use mathlib.Core.Logic.{◌↔◌}
 use mathlib.Core.Option.{none, some}
-use mathlib.Core.Path.{◌≡◌, refl, sym, ap, ◌∙◌}
+use mathlib.Core.Path.{◌≡◌, refl}
 use lib.IntN.{ℤ}
 use Rattle.refusals.proofs.Answer.{answer-refuses}
-use Rattle.refusals.specs.Answer.{refuses, gives, meaning}
-use Rattle.refusals.specs.declared.Checked.{Checked}
-use Rattle.refusals.specs.declared.Checked.TheVariants.{Passed, Refused}
+use Rattle.refusals.specs.Answer.{refuses, gives}
 use Rattle.refusals.specs.declared.Refusal.{Refusal}
 use Rattle.watch.specs.Start.{starting}
 use Rattle.watch.specs.States.{start_refusal, initial}
@@ -21,10 +19,3 @@ module _ (k : ℤ) (len h : ℕ) where
   pub start_gives : start_refusal len h ≡ none → starting k len h ≡ gives (initial k len h)
   unfolding starting
   start_gives e = rw e refl
-
-  module _ {r : Checked} (is : meaning r ≡ start_refusal len h) where
-    pub start-refused : {q : Refusal} → r ≡ Refused q → refuses q ≡ starting k len h
-    start-refused e = sym ((start-refuses _).1 (sym is ∙ ap meaning e))
-
-    pub start-accepted : r ≡ Passed → gives (initial k len h) ≡ starting k len h
-    start-accepted e = sym (start_gives (sym is ∙ ap meaning e))

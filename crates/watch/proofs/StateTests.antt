@@ -2,10 +2,10 @@
 use Prim.Native.Nat.{ℕ, ◌+◌, ◌*◌, ◌-◌, ◌≤◌, ◌<◌}
 use native.Mathlib.Nat.{le-mul_of_pos_right, mul-le-mul}
 use native.Mathlib.Omega.{arith}
-use mathlib.Core.Bool.{Bool, true}
+use mathlib.Core.Bool.{Bool, true, false, true≢false}
 use mathlib.Core.Logic.{◌⊎◌, ◌↔◌, inl, inr, ⊎_elim}
 use mathlib.Core.Option.{none}
-use mathlib.Core.Path.{◌≡◌}
+use mathlib.Core.Path.{◌≡◌, sym, ◌∙◌}
 use mir.Syntax.{w32}
 use mir.Val.{SFits}
 use Rattle.settings.specs.Refusals.{limit}
@@ -50,20 +50,17 @@ tested→ready {w} s more =
     active (inl i) e = absurd (omega arith)
     active (inr a) e = a.slots.0
 
-module _ {w : Watch} (fits : SFits w32 w.k) (t : Bounded w)
-    (opens : (w.windows ≡ 0) ⊎ (over w.k highest ≡ true)) where
+-- what the tests of a state found, of an idle window in a and of an active one in b
+module _ {w : Watch} (fits : SFits w32 w.k) (accepted : start_refusal w.len w.h ≡ none) (few : w.taken ≤ max_taken)
+    (opens : (w.windows ≡ 0) ⊎ (over w.k highest ≡ true)) {a : Bool} (idle : (a ≡ true) ↔ Idle w) where
   phase→reached : Idle w ⊎ Active w → Reached w
-  phase→reached phase =
-      tested→reached w fits (record { accepted = t.accepted; few = t.few; opens = opens; phase = phase })
+  phase→reached phase = tested→reached w fits (record { accepted = accepted; few = few; opens = opens; phase = phase })
 
-  pub idle-iff-reached : {b : Bool} → w.room ≡ 0 → (b ≡ true) ↔ Idle w → (b ≡ true) ↔ Reached w
-  idle-iff-reached no-slots is = (
-    λ e. phase→reached (inl (is.0 e)),
-    λ re. is.1 (⊎_elim (λ i. i) (λ a. absurd (omega (arith, a.slots))) (reached→tested w re).phase),
-  )
+  pub idle-reached : a ≡ true → (a ≡ true) ↔ Reached w
+  idle-reached e = ((λ _. phase→reached (inl (idle.0 e))), λ _. e)
 
-  pub active-iff-reached : {b : Bool} → (w.room ≡ 0 → ⊥) → (b ≡ true) ↔ Active w → (b ≡ true) ↔ Reached w
-  active-iff-reached some is = (
-    λ e. phase→reached (inr (is.0 e)),
-    λ re. is.1 (⊎_elim (λ i. absurd (some i.slots)) (λ a. a) (reached→tested w re).phase),
+  pub active-iff-reached : {b : Bool} → a ≡ false → (b ≡ true) ↔ Active w → (b ≡ true) ↔ Reached w
+  active-iff-reached e active = (
+    (λ f. phase→reached (inr (active.0 f))),
+    λ re. active.1 (⊎_elim (λ i. absurd (true≢false (sym (idle.1 i) ∙ e))) (λ a. a) (reached→tested w re).phase),
   )

@@ -9,12 +9,11 @@ mod start;
 mod step;
 
 pub use run::Ran;
-pub use start::Started;
-pub use step::{Answer, Stepped};
+pub use step::Stepped;
 
 // The settings, how many slots were taken and how many windows opened, and what is left to the
 // active window, the one that the next slot may still lie in: `room` is the slots left to it,
-// `spare` the bridges. Both are 0 when no window is active.
+// `spare` the bridges. Both are 0 when no window is active, as C has no Option.
 #[repr(C)]
 #[derive(Clone, Copy)]
 pub struct Watch {

@@ -1,13 +1,10 @@
 // Whether a state is one that an accepted start and steps lead to.
-ghost use Rattle.std.specs.Prelude.{◌≡◌, true, ◌⊎◌, ◌↔◌, ◌+◌, ◌*◌, ◌≤◌, ◌<◌};
-ghost use Rattle.std.proofs.Math.Option.{none};
-ghost use Rattle.settings.specs.Refusals.{limit};
+ghost use Rattle.std.specs.Prelude.{◌≡◌, true, ◌⊎◌, ◌↔◌};
 ghost use Rattle.rule.specs.Rule.{over as Rule·over, shaped};
-ghost use Rattle.watch.specs.States.{start_refusal, max_taken, Reached};
-ghost use Rattle.watch.specs.Tested.{highest, spacing as Tested·spacing, Bounded, Idle, Active};
+ghost use Rattle.watch.specs.States.{Reached};
+ghost use Rattle.watch.specs.Tested.{highest, spacing as Tested·spacing, Bounded as Tested·Bounded, Idle, Active};
 
 use crate::Watch;
-use refusals::Checked;
 use rule::{Shape, over};
 use settings::{LIMIT, check_shape};
 
@@ -15,14 +12,20 @@ use settings::{LIMIT, check_shape};
 pub(crate) const MAX_TAKEN: u32 = 1000000;
 
 // With this threshold no load is over.
-const HIGHEST: i32 = 2147483647;
+const HIGHEST: i32 = i32::MAX;
+
+// A state with settings and counts that passed their tests, which keep the sums of the other tests small.
+#[derive(Clone, Copy)]
+struct Bounded {
+    watch: Watch,
+    ghost bounded: { Tested·Bounded watch },
+}
 
 impl Watch {
     pub(crate) fn reached(self) -> bool
         ensures { (result ≡ true) ↔ Reached self }
     {
-        let checked = check_shape(self.shape(), LIMIT);
-        if let Checked::Refused(_) = checked {
+        if check_shape(self.shape(), LIMIT).is_err() {
             return false;
         }
         if self.taken > MAX_TAKEN {
@@ -34,10 +37,8 @@ impl Watch {
         if !self.may_open() {
             return false;
         }
-        if self.room == 0 {
-            return self.idle();
-        }
-        self.active()
+        let bounded = Bounded { watch: self };
+        bounded.idle() || bounded.active()
     }
 
     // The shape of its windows, which may touch.
@@ -60,58 +61,55 @@ impl Watch {
         }
         over(self.k, HIGHEST)
     }
+}
 
+impl Bounded {
     // No window is active, and the slots taken are enough for all the windows opened.
     fn idle(self) -> bool
-        requires { Bounded self × (self.room ≡ 0) }
-        ensures { (result ≡ true) ↔ Idle self }
+        ensures { (result ≡ true) ↔ Idle self.watch }
     {
-        if self.spare > 0 {
+        let watch = self.watch;
+        if watch.room > 0 {
             return false;
         }
-        self.windows * self.spacing() <= self.taken
+        if watch.spare > 0 {
+            return false;
+        }
+        watch.windows * self.spacing() <= watch.taken
     }
 
     // A window is active, it began with an over slot, and the slots taken are enough for it and all before it.
     fn active(self) -> bool
-        requires { Bounded self × (1 ≤ self.room) }
-        ensures { (result ≡ true) ↔ Active self }
+        ensures { (result ≡ true) ↔ Active self.watch }
     {
-        if self.windows == 0 {
+        let watch = self.watch;
+        if watch.room == 0 {
             return false;
         }
-        if self.room >= self.len {
+        if watch.windows == 0 {
             return false;
         }
-        if self.spare > self.h {
+        if watch.room >= watch.len {
             return false;
         }
-        let before = (self.windows - 1) * self.spacing();
-        fits(
-            self.len - self.room,
-            self.h - self.spare,
-            before,
-            self.taken,
-        )
+        if watch.spare > watch.h {
+            return false;
+        }
+        let slots = watch.len - watch.room;
+        if watch.h - watch.spare >= slots {
+            return false;
+        }
+        (watch.windows - 1) * self.spacing() + u32::from(slots) <= watch.taken
     }
 
     // The least number of slots from one window's opening to the next one's.
     fn spacing(self) -> u32
-        requires { start_refusal self.len self.h ≡ none }
-        ensures { result ≡ Tested·spacing self.len self.h }
+        ensures { result ≡ Tested·spacing self.watch.len self.watch.h }
     {
-        if self.len == 1 { 1 } else { self.h as u32 + 2 }
+        if self.watch.len == 1 {
+            1
+        } else {
+            u32::from(self.watch.h) + 2
+        }
     }
-}
-
-// Whether a window with so many slots and bridges so far began with an over slot, and the slots
-// taken are enough for it and for the windows before it, which need `before` slots.
-fn fits(slots: u16, bridges: u16, before: u32, taken: u32) -> bool
-    requires { before ≤ max_taken * limit }
-    ensures { (result ≡ true) ↔ ((bridges < slots) × (before + slots ≤ taken)) }
-{
-    if bridges >= slots {
-        return false;
-    }
-    before + slots as u32 <= taken
 }

@@ -1,10 +1,9 @@
 // A run of the watch: many loads.
-ghost use Rattle.refusals.specs.Answer.{meaning};
+ghost use Rattle.refusals.specs.Answer.{refusal_of};
 ghost use Rattle.watch.specs.Promise.{Runs};
 
 use crate::Watch;
-use crate::step::Answer;
-use refusals::Checked;
+use refusals::Refusal;
 
 // The state after the loads that were taken, how many these are, and whether they are all the
 // loads, or why the next one is refused.
@@ -12,33 +11,30 @@ use refusals::Checked;
 pub struct Ran {
     pub watch: Watch,
     pub taken: usize,
-    pub ended: Checked,
+    pub ended: Result<(), Refusal>,
 }
 
 impl Watch {
     // Steps load by load, up to the first that is refused.
     pub fn run(self, loads: &[i32]) -> Ran
-        ensures { Runs self loads.now result.watch result.taken (meaning result.ended) }
+        ensures { Runs self loads.now result.watch result.taken (refusal_of result.ended) }
     {
         let mut watch = self;
-        let mut i = 0;
-        while i < loads.len() {
-            let stepped = watch.step(loads[i]);
+        for (i, load) in loads.iter().enumerate() {
+            let stepped = watch.step(*load);
             watch = stepped.watch;
-            let answer = stepped.answer;
-            if let Answer::Refused(refusal) = answer {
+            if let Err(refusal) = stepped.answer {
                 return Ran {
                     watch,
                     taken: i,
-                    ended: Checked::Refused(refusal),
+                    ended: Err(refusal),
                 };
             }
-            i += 1;
         }
         Ran {
             watch,
-            taken: i,
-            ended: Checked::Passed,
+            taken: loads.len(),
+            ended: Ok(()),
         }
     }
 }

@@ -1,22 +1,15 @@
 // The start of a watch.
 ghost use Rattle.std.specs.Prelude.{◌≡◌};
-ghost use Rattle.watch.specs.Start.{meaning, starting};
+ghost use Rattle.watch.specs.Start.{starting};
 
 use crate::Watch;
-use refusals::{Checked, Refusal};
+use refusals::Refusal;
 use settings::{LIMIT, check_shape};
-
-// What a start gives.
-#[derive(Clone, Copy)]
-pub enum Started {
-    Watching(Watch),
-    Refused(Refusal),
-}
 
 impl Watch {
     // In the state that comes back no slot is taken yet. The settings are refused with 23 or 24, as for LIMIT slots.
-    pub fn start(k: i32, len: u16, h: u16) -> Started
-        ensures { meaning result ≡ starting k len h }
+    pub fn start(k: i32, len: u16, h: u16) -> Result<Watch, Refusal>
+        ensures { result ≡ starting k len h }
     {
         let watch = Watch {
             k,
@@ -27,10 +20,7 @@ impl Watch {
             room: 0,
             spare: 0,
         };
-        let checked = check_shape(watch.shape(), LIMIT);
-        if let Checked::Refused(refusal) = checked {
-            return Started::Refused(refusal);
-        }
-        Started::Watching(watch)
+        check_shape(watch.shape(), LIMIT)?;
+        Ok(watch)
     }
 }

@@ -1,8 +1,8 @@
 // A step of the watch: one load more.
-ghost use Rattle.std.specs.Prelude.{◌≡◌, ◌<◌};
-ghost use Rattle.watch.specs.States.{max_taken, after_slot, after_over, after_under, after as States·after};
-ghost use Rattle.watch.specs.Tested.{Ready};
-ghost use Rattle.watch.specs.declared.step.Answer.TheVariants.{Refused};
+ghost use Rattle.std.specs.Prelude.{◌≡◌};
+ghost use Rattle.refusals.specs.Answer.{refuses};
+ghost use Rattle.watch.specs.States.{after_slot, after_over, after_under, after as States·after};
+ghost use Rattle.watch.specs.Tested.{Ready as Tested·Ready};
 ghost use Rattle.watch.specs.Promise.{Steps};
 
 use crate::Watch;
@@ -10,18 +10,18 @@ use crate::reached::MAX_TAKEN;
 use refusals::Refusal;
 use rule::over;
 
-// The load is taken, and opened a window or not; or the step is refused.
-#[derive(Clone, Copy)]
-pub enum Answer {
-    Taken { opened: bool },
-    Refused(Refusal),
-}
-
-// The state that replaces the one given, and the answer.
+// The state that replaces the one given, and whether the load opened a window, or why it was not taken.
 #[derive(Clone, Copy)]
 pub struct Stepped {
     pub watch: Watch,
-    pub answer: Answer,
+    pub answer: Result<bool, Refusal>,
+}
+
+// A state that passed the tests of a step.
+#[derive(Clone, Copy)]
+struct Ready {
+    watch: Watch,
+    ghost ready: { Tested·Ready watch },
 }
 
 impl Watch {
@@ -30,75 +30,75 @@ impl Watch {
         ensures { Steps self load result }
     {
         if !self.reached() {
-            return refused(self, Refusal::Unreached);
+            return self.refused(Refusal::Unreached);
         }
         if self.taken == MAX_TAKEN {
-            return refused(self, Refusal::Full);
+            return self.refused(Refusal::Full);
         }
-        let watch = self.after(load);
+        let ready = Ready { watch: self };
+        let watch = ready.after(load);
         Stepped {
             watch,
-            answer: Answer::Taken {
-                opened: watch.windows > self.windows,
-            },
+            answer: Ok(watch.windows > self.windows),
         }
     }
 
-    // The state after a load, by whether the load is over or under.
-    fn after(self, load: i32) -> Watch
-        requires { Ready self }
-        ensures { result ≡ States·after self load }
+    fn refused(self, refusal: Refusal) -> Stepped
+        ensures { result ≡ record { watch = self; answer = refuses refusal } }
     {
-        if over(self.k, load) {
+        Stepped {
+            watch: self,
+            answer: Err(refusal),
+        }
+    }
+}
+
+impl Ready {
+    // The state after a load, by whether the load is over or under.
+    #[tactic(auto, unfolding(crate::specs::States::after))]
+    fn after(self, load: i32) -> Watch
+        ensures { result ≡ States·after self.watch load }
+    {
+        if over(self.watch.k, load) {
             return self.after_over();
         }
         self.after_under()
     }
 
     // An over load uses a slot of the active window, or opens a window where none is active.
+    #[tactic(auto, unfolding(crate::specs::States::after_over))]
     fn after_over(self) -> Watch
-        requires { Ready self }
-        ensures { result ≡ after_over self }
+        ensures { result ≡ after_over self.watch }
     {
-        if self.room == 0 {
-            return self.after_slot(self.windows + 1, self.len - 1, self.h);
+        let watch = self.watch;
+        if watch.room == 0 {
+            return self.after_slot(watch.windows + 1, watch.len - 1, watch.h);
         }
-        self.after_slot(self.windows, self.room - 1, self.spare)
+        self.after_slot(watch.windows, watch.room - 1, watch.spare)
     }
 
     // An under load uses a slot and a bridge of the active window, or ends it where no bridge is left.
+    #[tactic(auto, unfolding(crate::specs::States::after_under))]
     fn after_under(self) -> Watch
-        requires { Ready self }
-        ensures { result ≡ after_under self }
+        ensures { result ≡ after_under self.watch }
     {
-        if self.spare == 0 {
-            return self.after_slot(self.windows, 0, 0);
+        let watch = self.watch;
+        if watch.spare == 0 {
+            return self.after_slot(watch.windows, 0, 0);
         }
-        self.after_slot(self.windows, self.room - 1, self.spare - 1)
+        self.after_slot(watch.windows, watch.room - 1, watch.spare - 1)
     }
 
     // The state with one slot more taken, this many windows opened, and this much left to the active window.
     fn after_slot(self, windows: u32, room: u16, spare: u16) -> Watch
-        requires { self.taken < max_taken }
-        ensures { result ≡ after_slot self windows room spare }
+        ensures { result ≡ after_slot self.watch windows room spare }
     {
         Watch {
-            k: self.k,
-            len: self.len,
-            h: self.h,
-            taken: self.taken + 1,
+            taken: self.watch.taken + 1,
             windows,
             room,
             spare: if room == 0 { 0 } else { spare },
+            ..self.watch
         }
-    }
-}
-
-fn refused(watch: Watch, refusal: Refusal) -> Stepped
-    ensures { (result.watch ≡ watch) × (result.answer ≡ Refused refusal) }
-{
-    Stepped {
-        watch,
-        answer: Answer::Refused(refusal),
     }
 }

@@ -9,8 +9,6 @@ use Rattle.settings.specs.declared.Settings.{Settings}
 use Rattle.form1.specs.Form1.{stored_settle}
 use Rattle.form1.specs.Layout.{encode}
 use Rattle.requests.specs.Request.{paired, request_of, request_refusal, WellFormed}
-use Rattle.writer.specs.declared.Writing.{Writing}
-use Rattle.writer.specs.declared.Writing.TheVariants.{Refused, Stored}
 
 -- the file of a request: no note, the load ranges as they are given, the settings as they are given
 abbrev pub file_of : Settings → (lowest highest : List ℤ) → List ℕ
@@ -34,17 +32,13 @@ writer_refusal s los his buffer =
     ∷ row Buffer (buffer_too_short (file_of s los his) buffer)
     ∷ [])
 
-abbrev pub meaning : Writing → Answer ℕ
-meaning (Refused r) = refuses r
-meaning (Stored length) = gives length
-
 -- all that comes back: the answer, and what the buffer holds then
 pub record WriterOutcome : Type 0 where
   pub answer : Answer ℕ
   pub buffer : List ℕ
 
-abbrev pub outcome_of : Writing → (buffer : List ℕ) → WriterOutcome
-outcome_of r buffer = record { answer = meaning r; buffer = buffer }
+abbrev pub outcome_of : Answer ℕ → (buffer : List ℕ) → WriterOutcome
+outcome_of r buffer = record { answer = r; buffer = buffer }
 
 -- the first bytes hold the file, and no later byte is altered; on a refusal no byte is altered
 abbrev pub stored : Answer ℕ → (file buffer : List ℕ) → List ℕ

@@ -3,7 +3,7 @@
 #![tactic(auto)]
 
 ghost use mathlib.Core.List.{flat_map};
-ghost use Rattle.std.specs.Prelude.{◌≡◌, length};
+ghost use Rattle.std.specs.Prelude.{◌≡◌};
 ghost use Rattle.buffer.specs.Written.{Written};
 ghost use Rattle.form1.specs.Layout.{record_bytes};
 ghost use Rattle.requests.specs.Request.{paired};
@@ -11,56 +11,45 @@ ghost use Rattle.writer.specs.Writing.{outcome_of, writing};
 
 use checks::check_request;
 use form1::{RECORD, SETTLE, TRAILER, put_range, put_trailer};
-use refusals::{Checked, Refusal};
+use refusals::Refusal;
 use rule::Range;
 use settings::Settings;
 
-// What the writer answers besides the bytes.
-#[derive(Clone, Copy)]
-pub enum Writing {
-    Refused(Refusal),
-    Stored { length: usize },
-}
-
 // Gives the first refusal that applies, or the length of the file. Only in the latter case does it write: the file,
 // into the first bytes of the buffer.
-pub fn write(settings: Settings, lowest: &[i32], highest: &[i32], out: &mut [u8]) -> Writing
+pub fn write(
+    settings: Settings,
+    lowest: &[i32],
+    highest: &[i32],
+    out: &mut [u8],
+) -> Result<usize, Refusal>
     ensures { outcome_of result out.new
         ≡ writing settings lowest.now highest.now out.old }
 {
-    let checked = check_request(settings, lowest, highest, false);
-    if let Checked::Refused(refusal) = checked {
-        return Writing::Refused(refusal);
-    }
+    check_request(settings, lowest, highest, false)?;
     if settings.shape.settle != SETTLE {
-        return Writing::Refused(Refusal::StoredSettle);
+        return Err(Refusal::StoredSettle);
     }
     let n = lowest.len();
     if out.len() < TRAILER + RECORD * n {
-        return Writing::Refused(Refusal::Buffer);
+        return Err(Refusal::Buffer);
     }
     let trailer = put_records(lowest, highest, out);
-    let length = put_trailer(settings, n as u16, out, trailer);
-    Writing::Stored { length }
+    Ok(put_trailer(settings, n as u16, out, trailer))
 }
 
 // Puts a record for each slot, from the first byte on, and gives the place after them.
 fn put_records(lowest: &[i32], highest: &[i32], out: &mut [u8]) -> usize
-    requires { length highest.now ≡ length lowest.now }
     ensures { Written (flat_map record_bytes (paired lowest.now highest.now))
         0 out.old out.new result }
 {
     let mut next = 0;
-    let mut i = 0;
-    while i < lowest.len() {
-        let low = lowest[i];
-        let high = highest[i];
+    for (low, high) in lowest.iter().zip(highest) {
         let range = Range {
-            lowest: low,
-            highest: high,
+            lowest: *low,
+            highest: *high,
         };
         next = put_range(range, out, next);
-        i += 1;
     }
     next
 }

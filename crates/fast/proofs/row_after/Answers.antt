@@ -1,17 +1,9 @@
--- `fast::row_after` meets its contract: `row_after_slots` is lent the first LIMIT slots (`FirstSlots`).
-use Rattle.fast.proofs.FirstSlots.{counted, short, first-slots}
+-- `fast::row_after` meets its contract: the last row is the one for w windows.
+use Rattle.fast.proofs.FillLoop.{ring-last}
 use Rattle.fast.proofs.row_after.Goals as goal
-
-pub slice_bounds-row_after_slots-end : goal.slice_bounds-row_after_slots-end
-slice_bounds-row_after_slots-end c =
-    counted c.args.classes.now _ c.at_most_limit-n.ensures
-
-pub row_after_slots-requires : goal.row_after_slots-requires
-row_after_slots-requires c =
-    short c.args.classes.now _ c.at_most_limit-n.ensures
 
 pub returns : goal.returns
 returns c =
-    rw (← first-slots c.args.classes.now _
-    c.at_most_limit-n.ensures)
-    c.row_after_slots.ensures
+    let filled = c.fill-filled.ensures in
+    rw (← c.first-slots.ensures.settings, ← c.first-slots.ensures.classes)
+    (c.after_windows.ensures _ (ring-last filled.ring filled.last c.place.ensures))

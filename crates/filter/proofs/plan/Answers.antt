@@ -41,10 +41,16 @@ slice_bounds-codes-end c =
     let p = (goal.at.slice_bounds-codes-end c).After-classify-codes in
     omega (arith, (formed-iff.0 (well p)).pass.slots.1, wide _ (well p) _ (codes p))
 
-pub slice_bounds-least_counts-end : goal.slice_bounds-least_counts-end
-slice_bounds-least_counts-end c =
-    let p = (goal.at.slice_bounds-least_counts-end c).After-classify-codes in
+pub slice_bounds-slots-end : goal.slice_bounds-slots-end
+slice_bounds-slots-end c =
+    let p = (goal.at.slice_bounds-slots-end c).After-classify-codes in
     sym (whole _ (well p) _ (codes p))
+
+pub invariant_of-slots : goal.invariant_of-slots
+invariant_of-slots c =
+    let p = (goal.at.invariant_of-slots c).After-classify-codes in
+    let f = formed-iff.0 (well p) in
+    record { few = whole-short _ (well p) _ (codes p); long = f.pass.length.0 }
 
 -- the least counts: `least_counts` reads every slot of the request
 counts : (p : After-classify-codes) (least : LeastCounts) →
@@ -58,21 +64,11 @@ returns-then-least-settings c =
     let p = (goal.at.returns-then-least-settings c).After-classify-codes in
     no-plan-kept _ (well p) _ (by_bytes p) _ (counts p _ c.least_counts-least.ensures) (omega arith)
 
-pub slice_bounds-codes-end-2 : goal.slice_bounds-codes-end-2
-slice_bounds-codes-end-2 c =
-    let p = (goal.at.slice_bounds-codes-end-2 c).After-classify-codes in
-    omega (arith, (formed-iff.0 (well p)).pass.slots.1, wide _ (well p) _ (codes p))
-
-pub slice_bounds-draw-end : goal.slice_bounds-draw-end
-slice_bounds-draw-end c =
-    let p = (goal.at.slice_bounds-draw-end c).After-classify-codes in
-    sym (whole _ (well p) _ (codes p))
-
 pub narrow-requires : goal.narrow-requires
 narrow-requires c =
     let p = (goal.at.narrow-requires c).After-classify-codes in
     let f = formed-iff.0 (well p) in
-    (wide _ (well p) _ (codes p), f.pass.slots.1, f.width, f.pass.length.0, by_bytes p)
+    (sym (whole _ (well p) _ (codes p)), f.width, by_bytes p)
 
 pub returns : goal.returns
 returns c =

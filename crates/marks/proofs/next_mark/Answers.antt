@@ -1,15 +1,18 @@
--- `marks::next_mark` meets its contract: its tests are the definition's.
+-- `marks::next_mark` meets its contract: its arms are the definition's tests.
 use Rattle.rule.proofs.ClassCodes.{class-codes}
 use Rattle.marks.proofs.next_mark.Goals as goal
 
-pub returns-then-class-ne-OVER : goal.returns-then-class-ne-OVER
-returns-then-class-ne-OVER c = search class-codes
+pub returns-in-0-eq1 : goal.returns-in-0-eq1
+returns-in-0-eq1 c = search class-codes
 
-pub returns-then-mark-eq0 : goal.returns-then-mark-eq0
-returns-then-mark-eq0 c = search class-codes
+pub returns-in-0-default : goal.returns-in-0-default
+returns-in-0-default c = search class-codes
 
-pub returns-then-class-ne-UNDER : goal.returns-then-class-ne-UNDER
-returns-then-class-ne-UNDER c = search class-codes
+pub returns-in-0-default-2 : goal.returns-in-0-default-2
+returns-in-0-default-2 c = search class-codes
 
-pub returns : goal.returns
-returns c = search class-codes
+pub returns-in_default-eq0 : goal.returns-in_default-eq0
+returns-in_default-eq0 c = search class-codes
+
+pub returns-in_default : goal.returns-in_default
+returns-in_default c = search class-codes

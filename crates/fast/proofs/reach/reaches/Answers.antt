@@ -7,19 +7,17 @@ use Rattle.fast.proofs.reach.reaches.Goals as goal
 pub loop-x-init : goal.loop-x-init
 loop-x-init c = reaches-start _ _ _ (omega arith)
 
-pub extend-span-requires : goal.extend-span-requires
-extend-span-requires c = (omega arith, omega arith, c.loop-x.invariant.covers)
+pub extend-span-requires-clause-covers : goal.extend-span-requires-clause-covers
+extend-span-requires-clause-covers c = c.loop-x.invariant.covers
 
 pub without_first-span-requires : goal.without_first-span-requires
 without_first-span-requires c =
-    reaches-first _ _ _ _ c.loop-x.invariant (omega arith) c.extend-span.ensures.0
+    reaches-first _ _ _ _ c.loop-x.invariant (omega arith) c.extend-span.ensures.covers
 
 pub loop-x-preserved : goal.loop-x-preserved
 loop-x-preserved c =
-    let extended = c.extend-span.ensures in
-    let loop = c.loop-x in
-    reaches_step _ _ _ loop.reach _ _ _ _ (omega arith) (omega arith) loop.invariant extended.0 extended.1
-    (c.without_first-span.ensures _ _ _)
+    reaches_step _ _ _ c.loop-x.reach _ _ _ _ (omega arith) (omega arith) c.loop-x.invariant
+    c.extend-span.ensures.covers c.extend-span.ensures.whole (c.without_first-span.ensures _ _ _)
 
 pub returns : goal.returns
-returns c = reaches_end _ _ _ _ c.at_least_one-most.ensures (omega arith) c.loop-x.invariant
+returns c = reaches_end _ _ _ _ (omega (arith, c.max-most.ensures)) (omega arith) c.loop-x.invariant

@@ -1,80 +1,41 @@
 -- `fast::ring::fill` meets its contract: each turn makes a row (`FillLoop`).
+use Prim.Native.Nat.{◌+◌, ◌≤◌}
+use native.Mathlib.Nat.{le_refl}
 use native.Mathlib.Omega.{arith}
-use mathlib.Core.Bool.{false≢true}
 use mathlib.Core.Logic.{inl, inr}
-use mathlib.Core.Path.{refl, subst}
-use lib.ListN.{length-map}
-use Rattle.rule.specs.ClassCodes.{decode}
-use Rattle.fast.proofs.ReachLoop.{bounded}
-use Rattle.fast.proofs.FillLoop.{fill_start, fill-turn, fill-repeats-at, fill-ring, fill-counted}
-use Rattle.fast.specs.Rows.{Bounded}
+use mathlib.Core.Path.{◌≡◌, refl, sym, ◌∙◌}
+use Rattle.std.specs.Cmp.Lexicographic.{same_text}
+use Rattle.fast.proofs.FillLoop.{fill_start, fill-turn, fill-repeats, fill-ring, fill-counted}
 use Rattle.fast.proofs.ring.fill.Goals as goal
 
 pub loop-v-init : goal.loop-v-init
-loop-v-init c = (
-  omega arith,
-  omega arith,
-  refl,
-  refl,
-  λ shape r l.
-      (fill_start shape _ (c.first_row.ensures shape), λ e. absurd (false≢true e)),
-)
-
-pub advance-repeats-requires : goal.advance-repeats-requires
-advance-repeats-requires c =
-    let reach = bounded c.requires.4 in (
-      omega arith,
-      omega arith,
-      omega arith,
-      omega arith,
-      omega arith,
-      omega arith,
-      omega arith,
-      subst (Bounded _) (length-map c.args.classes.now decode) reach,
-    )
+loop-v-init c = fill_start _ _ c.args.rows.now (omega arith) (c.first_row-row.ensures _)
 
 pub loop-v-preserved : goal.loop-v-preserved
 loop-v-preserved c =
-    let loop = c.loop-v in
-    let made = c.advance-repeats.ensures in
-    let at = c.place-p.ensures in
-    let to = c.place-q.ensures in
-    let classes = c.args.classes.now in (
-      omega arith,
-      omega arith,
-      made.0,
-      made.1,
-      λ shape r l.
-          let so_far = (loop.invariant.4 shape r l).0 in (
-            fill-turn shape classes (omega arith) loop.found at to made.2 so_far (made.3 shape loop.v r l)
-                c.or_found-found.ensures,
-            (λ e.
-                fill-repeats-at shape classes (omega arith) loop.found at to made.2 so_far
-                (made.3 shape loop.v r l) (made.4 e)),
-          ),
-    )
+    let made = c.row_of-next.ensures _ (c.ends_of.ensures _ c.loop-v.invariant.now) in
+    fill-turn _ _ c.loop-v.found c.loop-v.invariant made c.place.ensures c.or_found-found.ensures
 
-pub returns-else-not-repeats : goal.returns-else-not-repeats
-returns-else-not-repeats c =
-    let loop = c.loop-v in
-    let pre = c.requires in
-    let args = c.args in
-    let (end, repeated) = loop.invariant.4 args.settings.shape pre.4 pre.5 in
-    let ended = inr (repeated c.if-not-repeats.false) in (
-      loop.invariant.1,
-      loop.invariant.0,
-      fill-ring args.settings _ _ end loop.invariant.0 ended,
-      fill-counted args.settings _ _ end loop.invariant.0 ended,
-    )
+pub returns-then-eq : goal.returns-then-eq
+returns-then-eq c =
+    let slots = c.args.slots.now in
+    let made = c.row_of-next.ensures _ (c.ends_of.ensures _ c.loop-v.invariant.now) in
+    let within : c.loop-v.v + 1 ≤ c.args.w = omega arith in
+    let end = fill-turn _ _ c.loop-v.found c.loop-v.invariant made c.place.ensures c.or_found-found.ensures in
+    let ended = inr (fill-repeats _ _ c.loop-v.found c.loop-v.invariant made (same_text _ _ (sym c.if-eq.true ∙ c.eq.ensures))) in
+    record {
+      last = within;
+      ring = fill-ring slots.settings _ _ end within ended;
+      counted = fill-counted slots.settings _ _ end within ended;
+    }
 
-pub returns-after-loop-v : goal.returns-after-loop-v
-returns-after-loop-v c =
-    let loop = c.loop-v in
-    let pre = c.requires in
-    let args = c.args in
-    let (end, repeated) = loop.invariant.4 args.settings.shape pre.4 pre.5 in (
-      loop.invariant.1,
-      loop.invariant.0,
-      fill-ring args.settings _ _ end loop.invariant.0 (inl (omega arith)),
-      fill-counted args.settings _ _ end loop.invariant.0 (inl (omega arith)),
-    )
+pub returns : goal.returns
+returns c =
+    let slots = c.args.slots.now in
+    let full : c.loop-v.v ≡ c.args.w = omega arith in
+    let end = rw full at c.loop-v.invariant in
+    record {
+      last = le_refl _;
+      ring = fill-ring slots.settings _ _ end (le_refl _) (inl refl);
+      counted = fill-counted slots.settings _ _ end (le_refl _) (inl refl);
+    }

@@ -7,22 +7,21 @@ use Rattle.fast.proofs.sweep.furthest.Goals as goal
 pub loop-k-init : goal.loop-k-init
 loop-k-init c = furthest-start _ _ _ _
 
-pub returns-then-e-known : goal.returns-then-e-known
-returns-then-e-known c =
-    let loop = c.loop-k in
-    furthest-known _ _ _ _ loop.k loop.invariant _ (λ e order near. omega arith)
+pub loop-k-preserved : goal.loop-k-preserved
+loop-k-preserved c =
+    furthest-step _ _ _ _ c.loop-k.k c.loop-k.invariant (omega (arith, rw c.from.ensures at c.saturating_add.ensures))
+
+pub returns-then-e-from-clause-furthest : goal.returns-then-e-from-clause-furthest
+returns-then-e-from-clause-furthest c =
+    furthest-known _ _ _ _ c.loop-k.k c.loop-k.invariant _ (λ e order near. omega arith)
 
 pub returns-then-saturating_add-room : goal.returns-then-saturating_add-room
 returns-then-saturating_add-room c =
-    let loop = c.loop-k in
-    furthest-found _ _ _ _ loop.k loop.invariant _ (omega arith) (omega arith) (omega arith)
+    let (no_nearer, met, furthest) =
+    furthest-found _ _ _ _ c.loop-k.k c.loop-k.invariant _ (omega arith) (omega arith)
+    (omega (arith, rw c.from.ensures at c.saturating_add.ensures)) in
+    rw c.from.ensures record { no_nearer = no_nearer; met = met; furthest = furthest }
 
-pub loop-k-preserved : goal.loop-k-preserved
-loop-k-preserved c =
-    let loop = c.loop-k in
-    furthest-step _ _ _ _ loop.k loop.invariant (omega arith)
-
-pub returns : goal.returns
-returns c =
-    let loop = c.loop-k in
-    furthest-known _ _ _ _ loop.k loop.invariant _ (λ e order near. omega arith)
+pub returns-clause-furthest : goal.returns-clause-furthest
+returns-clause-furthest c =
+    furthest-known _ _ _ _ c.loop-k.k c.loop-k.invariant _ (λ e order near. omega arith)

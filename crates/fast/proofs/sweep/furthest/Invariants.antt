@@ -5,6 +5,3 @@ use Rattle.fast.proofs.sweep.furthest.Given as goal
 
 abbrev pub invariant-loop-k : goal.invariant-loop-k
 invariant-loop-k l = AtMost l.ends l.x l.reach l.room l.k
-
-abbrev pub decreases-loop-k : goal.decreases-loop-k
-decreases-loop-k l = l.k

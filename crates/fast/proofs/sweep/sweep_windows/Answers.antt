@@ -7,18 +7,15 @@ use Rattle.fast.proofs.FilledBefore.{filled-start, filled-step}
 use Rattle.fast.proofs.sweep.sweep_windows.Goals as goal
 
 pub loop-x-init : goal.loop-x-init
-loop-x-init c = filled-start
+loop-x-init c = filled-start 0
 
 pub further-requires : goal.further-requires
-further-requires c = (omega arith, omega (arith, c.requires.6 c.loop-x.x (omega arith)))
+further-requires c = omega (arith, c.requires c.loop-x.x (omega arith))
 
 pub loop-x-preserved : goal.loop-x-preserved
 loop-x-preserved c =
-    let loop = c.loop-x in
-    filled-step loop.far loop.x _ loop.invariant (omega arith) (λ less.
-    c.further.ensures less _ _ _ _ _ refl (rw add-one refl) refl)
+    filled-step 0 c.loop-x.far c.loop-x.x _ c.loop-x.invariant (omega arith) (λ less.
+    c.further.ensures less _ _ _ _ refl (rw add-one refl) refl)
 
 pub returns : goal.returns
-returns c =
-    let loop = c.loop-x in
-    (omega (arith, loop.invariant.wide), λ less x there. loop.invariant.done x (omega arith) less)
+returns c = λ less x there. c.loop-x.invariant.done x (omega arith) less

@@ -10,10 +10,7 @@ loop-i-init c = turn-start _
 
 pub loop-i-preserved : goal.loop-i-preserved
 loop-i-preserved c =
-    let loop = c.loop-i in
-    turn_step _ loop.turned loop.i loop.invariant (omega arith) _ (omega arith) refl
+    turn_step _ c.loop-i.turned c.loop-i.i c.loop-i.invariant (omega arith) _ (omega arith) refl
 
 pub returns : goal.returns
-returns c =
-    let loop = c.loop-i in
-    (loop.invariant.wide, turn_end _ loop.turned loop.i loop.invariant (omega arith) (omega arith))
+returns c = turn_end _ c.loop-i.turned c.loop-i.i c.loop-i.invariant (omega arith) (omega arith)

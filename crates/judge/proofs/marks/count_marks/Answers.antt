@@ -1,21 +1,19 @@
--- `judge::marks::count_marks` meets its contract. The loop's invariant: each count is of the marks so far (`Tally`).
+-- `judge::marks::count_marks` meets its contract: the rule's counts are the library's.
+use Prim.Native.Nat.{ℕ}
 use native.Mathlib.Omega.{arith}
-use Rattle.rule.proofs.Tally.{tally-start, tally-step, tally-end}
-use Rattle.rule.specs.Rule.{windows, covered}
+use mathlib.Core.Bool.{Bool, cond}
+use mathlib.Core.List.{List}
+use mathlib.Core.Path.{◌≡◌, refl, ap}
+use Rattle.rule.specs.Rule.{count_if, windows, covered}
+use Rattle.std.proofs.Common.{rules}
+use Rattle.std.proofs.lemmas.List.Recursion.{is_count_by}
+use Rattle.std.specs.List.{count_by}
 use Rattle.judge.proofs.marks.count_marks.Goals as goal
 
-pub loop-i-init : goal.loop-i-init
-loop-i-init c = (omega arith, tally-start _ _, tally-start _ _)
-
-pub loop-i-preserved : goal.loop-i-preserved
-loop-i-preserved c =
-    let loop = c.loop-i in
-    rw c.with_mark-seen.ensures
-    (omega arith, tally-step _ _ _ _ (omega arith) loop.invariant.1, tally-step _ _ _ _ (omega arith) loop.invariant.2)
+counted : (p : ℕ → Bool) (ms : List ℕ) → count_if p ms ≡ count_by p ms
+unfolding count_if
+counted p = is_count_by (count_if p) p refl (λ m ms. ap (λ n. cond (p m) n (count_if p ms)) (omega arith))
 
 pub returns : goal.returns
 unfolding windows covered
-returns c = (
-  tally-end _ _ _ _ (omega arith) c.loop-i.invariant.1,
-  tally-end _ _ _ _ (omega arith) c.loop-i.invariant.2,
-)
+returns c = rw (counted _ c.args.marks.now, counted _ c.args.marks.now) (search rules)

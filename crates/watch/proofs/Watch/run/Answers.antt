@@ -1,6 +1,6 @@
 -- `watch::Watch::run` meets its contract: its loop runs what is left of the loads (`RunLoop`).
-use lib.IntN.{pos}
-use lib.ListN.{get_or}
+use Rattle.std.proofs.Common.{rules, slice_index_or, pos}
+use native.Mathlib.Omega.{arith}
 use mir.Facts.{to_z-of_z}
 use mir.Syntax.{w32}
 use mir.Val.{SFits}
@@ -13,25 +13,20 @@ pub loop-i-init : goal.loop-i-init
 loop-i-init c = run-start _ _
 
 stepped : (c : After-step-stepped) →
-    let point = c.before in
-    Steps point.loop-i.watch (get_or point.args.loads.now point.loop-i.i (pos 0)) c.step-stepped.result
+    Steps c.loop-i.watch (slice_index_or c.args.loads.now c.loop-i.i (pos 0)) c.step-stepped.result
 stepped c =
-    let point = c.before in
-    let x : SFits w32 (get_or point.args.loads.now point.loop-i.i (pos 0)) =
-    record { sfits = c.step-arg-1.given } in
-    simp (to_z-of_z, x) at c.step-stepped.ensures
+    let fits : SFits w32 (slice_index_or c.args.loads.now c.loop-i.i (pos 0)) = search rules in
+    simp (to_z-of_z, fits) at c.step-stepped.ensures
 
-pub returns-in-Refused : goal.returns-in-Refused
-returns-in-Refused c =
-    let s = c.before in
-    let i = s.before in
-    run-stop _ _ _ _ i.loop-i.invariant _ i.loop-i-test.true (stepped (goal.at.returns-in-Refused c).After-step-stepped) c.in-Refused.is
+pub returns-in-Err : goal.returns-in-Err
+returns-in-Err c =
+    run-stop _ _ _ _ c.loop-i.invariant _ c.loop-i-test.true
+    (stepped (goal.at.returns-in-Err c).After-step-stepped) c.in-Err.is
 
 pub loop-i-preserved : goal.loop-i-preserved
 loop-i-preserved c =
-    let s = c.before in
-    let i = s.before in
-    run_step _ _ _ _ i.loop-i.invariant _ i.loop-i-test.true (stepped (goal.at.loop-i-preserved c).After-step-stepped) c.in_default.is
+    run_step _ _ _ _ c.loop-i.invariant _ c.loop-i-test.true
+    (stepped (goal.at.loop-i-preserved c).After-step-stepped) c.in_default.is
 
 pub returns : goal.returns
-returns c = run_end _ _ _ _ c.loop-i.invariant c.loop-i-test.false
+returns c = run_end _ _ _ _ c.loop-i.invariant (omega arith)
