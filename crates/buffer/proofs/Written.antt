@@ -1,12 +1,31 @@
 -- Bytes written one after another are one list of bytes.
-use Prim.Native.Nat.{ℕ, ◌+◌, ◌-◌, ◌≤◌, min}
+use Prim.Native.Nat.{ℕ, ◌+◌, ◌-◌, ◌≤◌, ◌<◌, min}
 use native.Mathlib.Omega.{arith}
 use mathlib.Core.List.{List, [], ◌∷◌, ◌++◌, append_assoc, append-nil, flatten}
 use mathlib.Core.Path.{◌≡◌, refl, sym, ap, ◌∙◌}
-use lib.ListN.{length, take, drop, length-append, length-take, length-drop, take-append-drop}
-use lib.Seq.{sets, sets-eq, length-sets}
-use Rattle.facts.proofs.Lists.{sets-front, sets-full, sets-clipped, sets-append}
+use lib.ListN.{
+  length,
+  get_or,
+  set,
+  take,
+  drop,
+  length-append,
+  length-take,
+  length-drop,
+  drop_of_length-le,
+  take-append-drop,
+}
+use lib.Seq.{set_out, sets, sets-eq, length-sets}
+use Rattle.facts.proofs.Lists.{uncons, sets-front, sets-full, sets-clipped, sets-append}
 use Rattle.buffer.specs.Written.{Written}
+
+-- a byte, where it fits and where it does not
+module _ (b : ℕ) (out : List ℕ) (place : ℕ) where
+  pub written_byte : place < length out → Written (b ∷ []) place out (set out place b) (place + 1)
+  written_byte bound = record { stored = refl; ends = omega arith }
+
+  pub written-full : length out ≤ place → Written (b ∷ []) place out out (length out)
+  written-full bound = record { stored = sym (set_out out place b bound); ends = omega arith }
 
 -- what would be stored past the end is not missed
 stored-fitting : (bytes out : List ℕ) (start n : ℕ) → min (length bytes) (length out - start) ≤ n →
@@ -65,10 +84,28 @@ pub record LeftToWrite (text : List ℕ) (place : ℕ) (before rest : List ℕ) 
   pub whole : (after : List ℕ) (end : ℕ) → Written rest here now after end → Written text place before after end
 
 module _ {text : List ℕ} {place : ℕ} {before : List ℕ} where
+  pub left-start : LeftToWrite text place before text before place
+  left-start = record { whole = λ after end w. w }
+
   pub left_step : {s t out next : List ℕ} {p q : ℕ} → LeftToWrite text place before (s ++ t) out p →
       Written s p out next q →
       LeftToWrite text place before t next q
   left_step l v = record { whole = λ after end w. l.whole after end (written-append v w) }
+
+  pub left-length : {rest out : List ℕ} {p : ℕ} → LeftToWrite text place before rest out p → length out ≡ length before
+  left-length {rest} {out} {p} l =
+      sym (length-sets out p rest)
+      ∙ written-length (l.whole (sets out p rest) _ (record { stored = refl; ends = refl }))
+
+  -- the bytes of a list, one by one, with a text t after them
+  module _ (bytes t : List ℕ) (i : ℕ) {out : List ℕ} {p : ℕ}
+      (l : LeftToWrite text place before (drop i bytes ++ t) out p) where
+    pub left-byte : {next : List ℕ} {q : ℕ} → i < length bytes → Written (get_or bytes i 0 ∷ []) p out next q →
+        LeftToWrite text place before (drop (i + 1) bytes ++ t) next q
+    left-byte bound = left_step (rw (uncons bytes i 0 bound) at l)
+
+    pub left_end : length bytes ≤ i → LeftToWrite text place before t out p
+    left_end bound = rw (drop_of_length-le bytes bound) at l
 
 -- fields, one after another
 module _ (field : List ℕ) {p q : ℕ} {before between : List ℕ} where

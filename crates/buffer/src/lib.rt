@@ -8,10 +8,16 @@ ghost use Rattle.buffer.specs.Written.{Written};
 pub fn put_bytes(bytes: &[u8], out: &mut [u8], place: usize) -> usize
     ensures { Written bytes.now place out.old out.new result }
 {
-    let start = place.min(out.len());
-    let fitting = bytes.len().min(out.len() - start);
-    let end = start + fitting;
-    out[start..end].copy_from_slice(&bytes[..fitting]);
+    let end = out.len();
+    let start = place.min(end);
+    let room = end - start;
+    // Where all fit, the few bytes of a number are stored without a call, since their count is fixed then.
+    if bytes.len() <= room {
+        let after = start + bytes.len();
+        out[start..after].copy_from_slice(bytes);
+        return after;
+    }
+    out[start..].copy_from_slice(&bytes[..room]);
     end
 }
 

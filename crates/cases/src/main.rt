@@ -3,6 +3,8 @@
 // is, and below it what the operation gave.
 #![tactic(auto)]
 
+ghost use Rattle.std.specs.Prelude.{◌≤◌, length};
+
 use crate::cards::read;
 use crate::filtered::filtered;
 use crate::judged::{chosen, judged};
@@ -11,7 +13,7 @@ use crate::show::write;
 use crate::watched::{stepped, watched};
 use crate::written::made;
 use arrayvec::ArrayVec;
-use std::io::{self, Read};
+use std::io::Read;
 
 mod cards;
 mod fields;
@@ -26,14 +28,29 @@ mod written;
 // The most bytes of standard input that are read.
 const HELD_BYTES: usize = 65536;
 
-// A read that fails counts as the end of the input.
 fn main(rt: HostRuntime) {
-    let mut text = ArrayVec::<u8, HELD_BYTES>::new();
-    let _ = io::copy(&mut rt.stdin().take(HELD_BYTES as u64), &mut text);
+    let mut text = ArrayVec::from([0; HELD_BYTES]);
+    let size = read_full(&mut rt.stdin(), &mut text);
+    text.truncate(size);
     for line in text.split_inclusive(|byte| *byte == b'\n') {
         write(&rt, line);
         operation(&rt, line);
     }
+}
+
+// Reads until the slice is full, the input ends or a read fails, and gives how many bytes it put at the slice's start.
+// No `io::copy`, which reads again where a signal interrupted it, and at most 8,192 bytes at a time.
+fn read_full(from: &mut impl Read, out: &mut [u8]) -> usize
+    ensures { result ≤ length out.new }
+{
+    let mut size = 0;
+    while size < out.len() {
+        match from.read(&mut out[size..]) {
+            Ok(0) | Err(_) => break,
+            Ok(n) => size += n,
+        }
+    }
+    size
 }
 
 // An operation is known by its first letter: a list of letters and closures would be no plainer than this match. A line

@@ -1,4 +1,6 @@
 // What the writer stores.
+ghost use Rattle.std.specs.Prelude.{◌≤◌};
+
 use crate::cards::write_contents;
 use crate::fields::{MANY, field, loads, settings};
 use crate::show::{say, write_bytes, write_refusal};
@@ -17,10 +19,12 @@ pub fn made(rt: &impl Print, line: &[u8]) {
     store(rt, settings(line), &loads(line, 1), &loads(line, 2), buffer);
 }
 
-fn size(field: &[u8]) -> usize {
+fn size(field: &[u8]) -> usize
+    ensures { result ≤ 130 }
+{
     let given = numbers::<1>(field, Base::Decimal);
     let n = given.first().copied().unwrap_or(0);
-    n.unsigned_abs() as usize
+    MANY.min(n.unsigned_abs() as usize)
 }
 
 // Writes the length of the file, what the buffer holds then, and what the file holds by the view and the reader.

@@ -1,1 +1,2 @@
 mod FirstCrossed
+mod FirstCrossedLoop

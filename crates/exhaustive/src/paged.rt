@@ -1,4 +1,6 @@
 // Compares paging with the search. Every string of bytes is given once, and so is the empty slice.
+ghost use Rattle.std.specs.Prelude.{◌≤◌};
+
 use crate::answers::UNTOUCHED;
 use crate::counts::Tally;
 use crate::samples::{Request, Sample};
@@ -39,7 +41,9 @@ pub fn compare(tally: &mut Tally, sample: &Sample) {
 }
 
 // Strings of up to 3 slots are of the bytes that the judge is tried on, longer ones of marks.
-fn strings(request: &Request) -> usize {
+fn strings(request: &Request) -> usize
+    ensures { result ≤ 65536 }
+{
     if request.n > 3 {
         return request.mark_strings();
     }

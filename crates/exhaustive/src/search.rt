@@ -1,5 +1,7 @@
 // Document 01's rule, with document 02's T-06, read window by window, and a search over all strings of marks. No
 // function of the planner is used here.
+ghost use Rattle.std.specs.Prelude.{◌≤◌, length};
+
 use crate::answers::Least;
 use crate::samples::Request;
 use crate::strings::Text;
@@ -141,6 +143,8 @@ pub fn covered(marks: &[u8]) -> usize {
     marks.iter().filter(|mark| **mark != 0).count()
 }
 
-fn occurrences(marks: &[u8], which: u8) -> usize {
+fn occurrences(marks: &[u8], which: u8) -> usize
+    ensures { result ≤ length marks.now }
+{
     marks.iter().filter(|mark| **mark == which).count()
 }

@@ -1,6 +1,6 @@
 // Strings of marks and of bytes by number, in the order of document 02's T-03: they are compared slot by slot from slot
 // 0, smaller byte first.
-ghost use Rattle.std.specs.Prelude.{◌≤◌, ◌<◌};
+ghost use Rattle.std.specs.Prelude.{◌≤◌, ◌<◌, ◌^◌};
 
 use crate::samples::Request;
 
@@ -33,7 +33,9 @@ impl Text {
 
 impl Request {
     // How many strings of marks there are.
-    pub fn mark_strings(&self) -> usize {
+    pub fn mark_strings(&self) -> usize
+        ensures { result ≤ 65536 }
+    {
         self.strings(MARKS)
     }
 
@@ -42,7 +44,9 @@ impl Request {
     }
 
     // How many strings of the bytes that are tried as marks there are.
-    pub fn byte_strings(&self) -> usize {
+    pub fn byte_strings(&self) -> usize
+        ensures { result ≤ 6 ^ self.now.n }
+    {
         self.strings(BYTES)
     }
 
@@ -51,7 +55,9 @@ impl Request {
     }
 
     // None wraps for up to 8 slots.
-    fn strings<const M: usize>(&self, symbols: [u8; M]) -> usize {
+    fn strings<const M: usize>(&self, symbols: [u8; M]) -> usize
+        ensures { result ≤ M ^ self.now.n }
+    {
         symbols.len().wrapping_pow(u32::from(self.n))
     }
 

@@ -1,13 +1,15 @@
 -- Facts about the order of integers that the library lacks.
-use Prim.Native.Nat.{zero, suc}
+use Prim.Native.Nat.{zero, suc, ◌<◌}
 use native.Mathlib.Nat.{le_antisymm, le_of_lt}
 use native.Mathlib.Omega.{arith}
 use mathlib.Core.Bool.{Bool, true, false, not}
 use mathlib.Core.Logic.{◌⊎◌, inl, inr, ⊎_elim}
 use mathlib.Core.Path.{◌≡◌, refl, sym, ap, subst}
 use lib.Dec.{T, leb→le, le→leb, ltb→lt, lt→ltb}
-use lib.IntN.{ℤ, pos, negsuc, suc_ℤ}
-use lib.Signed.{lt_z, le_z, ◌<ℤ◌, ◌≤ℤ◌, le_z_yes, lt_z_yes, lt_z_no, <ℤ-≤ℤ_trans, clash_ℤ}
+use lib.IntN.{ℤ, pos, negsuc, suc_ℤ, ◌+ℤ◌, +ℤ_one}
+use lib.Signed.{lt_z, le_z, mag, ◌<ℤ◌, ◌≤ℤ◌, le_z_yes, lt_z_yes, lt_z_no, <ℤ-≤ℤ_trans, clash_ℤ}
+use mir.Syntax.{w32}
+use mir.Val.{SFits}
 
 -- x lies above k or not
 pub lt-or-le : (k x : ℤ) → (k <ℤ x) ⊎ (x ≤ℤ k)
@@ -63,3 +65,14 @@ lt→le-T (negsuc a) (negsuc b) l = le→leb b a (le_of_lt (ltb→lt b a l))
 
 pub lt→le : {a b : ℤ} → a <ℤ b → a ≤ℤ b
 lt→le {a} {b} l = le_z_yes (lt→le-T a b l.lt)
+
+-- where k is below a number that fits an i32, k + 1 fits too
+suc-fits-mag : (k hi : ℤ) → mag k < 2147483648 → mag hi < 2147483648 → T (lt_z k hi) → mag (suc_ℤ k) < 2147483648
+suc-fits-mag (pos k) (pos hi) p q l = omega (arith, ltb→lt k hi l)
+suc-fits-mag (pos k) (negsuc hi) p q l = absurd l
+suc-fits-mag (negsuc zero) hi p q l = omega arith
+suc-fits-mag (negsuc (suc k)) hi p q l = omega arith
+
+module _ {k : ℤ} where
+  pub suc-fits : {hi : ℤ} → SFits w32 k → SFits w32 hi → k <ℤ hi → SFits w32 (k +ℤ pos 1)
+  suc-fits {hi} p q l = rw (+ℤ_one k) (record { sfits = suc-fits-mag k hi p.sfits q.sfits l.lt })

@@ -1,6 +1,6 @@
 -- Facts about lists that the library lacks: one element taken off, read, mapped or written, and one list stored in
 -- another.
-use Prim.Native.Nat.{ℕ, suc, ◌+◌, ◌-◌, ◌≤◌, ◌<◌, min}
+use Prim.Native.Nat.{ℕ, zero, suc, ◌+◌, ◌-◌, ◌≤◌, ◌<◌, min}
 use native.Mathlib.Nat.{zero-add, add-zero, eq-or-lt_of_le}
 use native.Mathlib.Numerals.{add-one}
 use native.Mathlib.Omega.{arith}
@@ -19,6 +19,12 @@ uncons l i d bound = rw add-one (drop-cons l i d bound)
 pub no_length : {A : Type 0} (l : List A) → length l ≡ 0 → l ≡ []
 no_length [] e = refl
 no_length (x ∷ xs) e = absurd (omega arith)
+
+-- what stands at a place of the list is the same whatever else would be given
+pub get_or_any : {A : Type 0} (l : List A) (i : ℕ) (d e : A) → i < length l → get_or l i d ≡ get_or l i e
+get_or_any [] i d e bound = absurd (omega arith)
+get_or_any (x ∷ xs) zero d e bound = refl
+get_or_any (x ∷ xs) (suc i) d e bound = get_or_any xs i d e (omega arith)
 
 -- what holds of the places before i, and of the value written to place i, holds of the places before i + 1
 pub written-before : {A : Type 0} (P : ℕ → A → Type 0) (l : List A) (i : ℕ) (v d : A) → i < length l →

@@ -1,11 +1,20 @@
 -- What a slot loses, and what is left of its range, for the functions of `filter::narrow`.
 use Prim.Native.Nat.{ℕ, ◌+◌, ◌≤◌, ◌<◌}
 use native.Mathlib.Omega.{arith}
+use mathlib.Core.Bool.{Bool, true, false, cond, not}
 use mathlib.Core.List.{List}
+use mathlib.Core.Logic.{◌⊎◌, inl, inr}
 use mathlib.Core.Path.{◌≡◌, refl, sym, ap, ◌∙◌, subst}
-use lib.IntN.{ℤ, pos}
-use lib.ListN.{length, get_or, set, length-set}
-use lib.Seq.{ext_get_or, get_or-set_other}
+use borrow.Author.Tests.{eqb-false, not-true, not-false}
+use lib.Dec.{eqb}
+use lib.IntN.{ℤ, pos, suc_ℤ, ◌+ℤ◌, +ℤ_one}
+use lib.ListN.{length, take, get_or, set, length-set}
+use lib.Seq.{take-set-lt, length-take-le, map-set, ext_get_or, get_or-set_other}
+use lib.Signed.{lt_z, ◌≤ℤ◌, ◌<ℤ◌}
+use Rattle.facts.proofs.Integers.{le→lt-suc}
+use Rattle.facts.proofs.Tests.{T→true}
+use Rattle.rule.proofs.ClassCodes.{decode-0, decode-1, decode-other, decode_all-at}
+use Rattle.rule.specs.ClassCodes.{decode, decode_all}
 use Rattle.rule.specs.Ranges.{range, Class, under_only, over_only, either, class_of}
 use Rattle.rule.specs.declared.Range.{Range}
 use Rattle.settings.specs.declared.Settings.{Settings}
@@ -14,8 +23,56 @@ use Rattle.requests.proofs.LossIsExact.{map_indexed-length, map_indexed-at, clas
 use Rattle.filter.specs.OpenIfLost.{OpenIfLost}
 use Rattle.requests.specs.declared.Loss.{Loss}
 use Rattle.requests.specs.declared.Loss.TheVariants.{Nothing as nothing, Under as under_part, Over as over_part}
+use Rattle.requests.specs.Promise.{lowest_after, highest_after}
 use Rattle.requests.specs.Request.{at}
-use Rattle.requests.specs.Solution.{classes_of, loss_of, loss, map_indexed}
+use Rattle.requests.specs.Solution.{classes_of, possible, loss_of, loss, map_indexed}
+
+module _ {k : ℤ} where
+  -- the ends of an open slot's range, without the part that it loses
+  pub next-end : {lo : ℤ} → lo ≤ℤ k → k +ℤ pos 1 ≡ lowest_after k under_part lo
+  next-end {lo} l = rw (T→true (lt_z lo (suc_ℤ k)) (le→lt-suc l).lt) (+ℤ_one k)
+
+  pub last_end : {hi : ℤ} → k <ℤ hi → k ≡ highest_after k over_part hi
+  last_end {hi} l = rw (T→true (lt_z k hi) l.lt) refl
+
+-- the classes with slot i settled to the class of byte m
+module _ (codes : List ℕ) (n i m : ℕ) where
+  pub settled : i < n → decode_all (take n (set codes i m)) ≡ set (decode_all (take n codes)) i (decode m)
+  settled e = ap decode_all (take-set-lt n codes i m e) ∙ map-set decode (take n codes) i m
+
+  pub settled-length : n ≤ length codes → length (take n (set codes i m)) ≡ n
+  settled-length e = length-take-le n (set codes i m) (omega (arith, e, length-set codes i m))
+
+-- what slot i loses, by its byte
+module _ (s : Settings) (codes : List ℕ) (n i : ℕ) (there : i < n) where
+  abbrev cs : List Class
+  cs = decode_all (take n codes)
+
+  abbrev byte : ℕ
+  byte = get_or codes i 0
+
+  pub settled-loss : (byte ≡ 0) ⊎ (byte ≡ 1) → nothing ≡ loss s cs i
+  unfolding loss
+  settled-loss (inl e) = rw (decode_all-at codes n i there, decode-0 byte e) refl
+  settled-loss (inr e) = rw (decode_all-at codes n i there, decode-1 byte e) refl
+
+  -- an open slot, by whether a plan is left with the slot settled on each side
+  module _ (e : byte ≡ 0 → ⊥) (f : eqb byte 1 ≡ false) {u : Bool} (under : u ≡ possible s (set cs i (decode 0))) where
+    by-sides : cond u (cond (possible s (set cs i (decode 1))) nothing over_part) under_part ≡ loss s cs i
+    unfolding loss decode
+    by-sides = rw (decode_all-at codes n i there, decode-other byte e (eqb-false byte 1 f), ← under) refl
+
+    pub under-lost : not u ≡ true → under_part ≡ loss s cs i
+    under-lost p = rw (not-true u p) at by-sides
+
+    module _ (p : not u ≡ false) {o : Bool} (over : o ≡ possible s (set cs i (decode 1))) where
+      pub over-lost : not o ≡ true → over_part ≡ loss s cs i
+      over-lost q = rw (not-false u p, ← over, not-true o q) at by-sides
+
+      pub none-lost : not o ≡ false → nothing ≡ loss s cs i
+      none-lost q = rw (not-false u p, ← over, not-false o q) at by-sides
+
+pub ruleset losses = (under-lost, over-lost, none-lost, arith)
 
 -- the loss is a part, and not nothing; a slot that loses a part is open
 abbrev Lost : Loss → Type 0

@@ -52,16 +52,13 @@ fn plan(
         (outcome_of (gives result) lowest.new highest.new marks.new) }
 {
     let codes = classify(settings.k, lowest, highest);
-    let slots = Slots {
-        settings,
-        codes: &codes[..lowest.len()],
-    };
-    let least = least_counts(settings, slots.codes);
+    let n = lowest.len();
+    let least = least_counts(settings, &codes[..n]);
     if least.covered > settings.covered.most {
         return None;
     }
-    draw(settings, slots.codes, marks);
-    slots.narrow(lowest, highest);
+    draw(settings, &codes[..n], marks);
+    Slots { settings, codes, n }.narrow(lowest, highest);
     Some(PlanCounts {
         windows: raise(settings.windows, least.windows),
         covered: raise(settings.covered, least.covered),

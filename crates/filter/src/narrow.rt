@@ -1,5 +1,5 @@
 // What each slot loses: the part of its range that occurs in no plan.
-ghost use Rattle.std.specs.Prelude.{◌≡◌, ◌≤◌, ◌<◌, length, set};
+ghost use Rattle.std.specs.Prelude.{◌≡◌, ◌≤◌, ◌<◌, length, take, set};
 ghost use Rattle.settings.specs.Refusals.{limit};
 ghost use Rattle.filter.specs.OpenIfLost.{OpenIfLost};
 ghost use Rattle.rule.specs.ClassCodes.{decode, decode_all};
@@ -11,23 +11,27 @@ use requests::Loss;
 use rule::{OVER, Range, UNDER};
 use settings::{LIMIT, Settings};
 
-// The slots of a request that passes its checks, by the bytes that stand for their classes. `least` and `fast` have slots
-// of their own with other facts: one type for all would be public, and no plainer.
+// The n slots of a request that passes its checks, by the bytes that stand for their classes: an array of the most, since
+// the copy of one has a fixed length. `least` and `fast` have slots of their own with other facts: one type for all would
+// be public, and no plainer.
 #[derive(Clone, Copy)]
-pub(crate) struct Slots<'a> {
+pub(crate) struct Slots {
     pub settings: Settings,
-    pub codes: &'a [u8],
-    ghost few: { length codes.now ≤ limit },
+    pub codes: [u8; LIMIT],
+    pub n: usize,
+    ghost few: { n ≤ limit },
     ghost long: { 1 ≤ settings.shape.len },
 }
 
-impl Slots<'_> {
+impl Slots {
     // Cuts every slot's range, given as it was lent.
     pub(crate) fn narrow(&self, lowest: &mut [i32], highest: &mut [i32])
-        requires { (length lowest.old ≡ length self.now.codes.now) × (length highest.old ≡ length lowest.old)
-            × (decode_all self.now.codes.now ≡ classes_of self.now.settings.k lowest.old highest.old) }
-        ensures { (lowest.new ≡ lowest_left self.now.settings (decode_all self.now.codes.now) lowest.old)
-            × (highest.new ≡ highest_left self.now.settings (decode_all self.now.codes.now) highest.old) }
+        requires { let cs = decode_all (take self.now.n self.now.codes) in
+            (length lowest.old ≡ self.now.n) × (length highest.old ≡ length lowest.old)
+            × (cs ≡ classes_of self.now.settings.k lowest.old highest.old) }
+        ensures { let cs = decode_all (take self.now.n self.now.codes) in
+            (lowest.new ≡ lowest_left self.now.settings cs lowest.old)
+            × (highest.new ≡ highest_left self.now.settings cs highest.old) }
     {
         for i in 0..lowest.len() {
             let given = Range {
@@ -41,10 +45,9 @@ impl Slots<'_> {
     }
 
     // The part of slot i's range that occurs in no plan.
-    #[tactic(auto, unfolding(requests::specs::Solution::loss, rule::specs::ClassCodes::decode))]
     fn loss_at(&self, i: usize) -> Loss
-        requires { i < length self.now.codes.now }
-        ensures { result ≡ loss self.now.settings (decode_all self.now.codes.now) i }
+        requires { i < self.now.n }
+        ensures { result ≡ loss self.now.settings (decode_all (take self.now.n self.now.codes)) i }
     {
         if self.codes[i] == UNDER || self.codes[i] == OVER {
             return Loss::Nothing;
@@ -60,15 +63,13 @@ impl Slots<'_> {
 
     // Whether a plan is left with slot i settled to one class.
     fn plan_remains(&self, i: usize, class: u8) -> bool
-        requires { i < length self.now.codes.now }
-        ensures { result ≡ possible self.now.settings (set (decode_all self.now.codes.now) i (decode class)) }
+        requires { i < self.now.n }
+        ensures { result ≡ possible self.now.settings
+            (set (decode_all (take self.now.n self.now.codes)) i (decode class)) }
     {
-        // The first of an array of the most: what puts into a list of fixed capacity has an error that cannot come here.
-        let mut buffer = [0; LIMIT];
-        let settled = &mut buffer[..self.codes.len()];
-        settled.copy_from_slice(self.codes);
+        let mut settled = self.codes;
         settled[i] = class;
-        least_counts(self.settings, settled).covered <= self.settings.covered.most
+        least_counts(self.settings, &settled[..self.n]).covered <= self.settings.covered.most
     }
 }
 

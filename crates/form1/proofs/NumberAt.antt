@@ -2,12 +2,13 @@
 use Prim.Native.Nat.{ℕ, suc, ◌+◌, ◌-◌, ◌*◌, ◌/◌, ◌%◌, ◌<◌}
 use native.Mathlib.Omega.{arith}
 use mathlib.Core.Bool.{Bool, true, false, cond}
-use mathlib.Core.List.{List, [], ◌∷◌}
+use mathlib.Core.List.{List, [], ◌∷◌, ◌++◌}
 use mathlib.Core.Path.{◌≡◌, refl, ap}
 use borrow.Author.Tests.{lt-ltb}
 use lib.Dec.{ltb}
 use lib.IntN.{ℤ, pos, negsuc}
-use lib.ListN.{length, get_or}
+use lib.ListN.{length, take, drop, get_or}
+use lib.Seq.{drop-drop}
 use mir.Syntax.{w32}
 use mir.Val.{SFits, sel, of_z, to_z}
 use Rattle.facts.proofs.Lists.{uncons}
@@ -42,6 +43,18 @@ module _ (file : List ℕ) where
         number_at-1 (place + 3) bound,
       )
 
+halves : (bytes : List ℕ) → little_endian (take 2 bytes) + 65536 * little_endian (take 2 (drop 2 bytes))
+    ≡ little_endian (take 4 bytes)
+unfolding little_endian
+halves [] = refl
+halves (a ∷ []) = omega arith
+halves (a ∷ b ∷ bytes) = omega arith
+
+pub number_at-pairs : (file : List ℕ) (place : ℕ) → number_at 2 place file + 65536 * number_at 2 (place + 2) file
+    ≡ number_at 4 place file
+unfolding number_at
+number_at-pairs file place = rw (← drop-drop 2 place file) (halves (drop place file))
+
 pub ruleset numbers = (number_at-1, number_at-2)
 
 of_z-bits : (z : ℤ) → SFits w32 z → of_z w32 z ≡ bits z
@@ -68,6 +81,11 @@ bytes_2 n =
     let first : n % 65536 % 256 ≡ n % 256 = omega arith in
     let second : n % 65536 / 256 % 256 ≡ n / 256 % 256 = omega arith in
     rw (first, second) refl
+
+-- a number in four bytes is its lower half and its upper half in two bytes each
+pub bytes_4 : (n : ℕ) → bytes 4 n ≡ bytes 2 n ++ bytes 2 (n / 65536)
+unfolding bytes
+bytes_4 n = let upper : n / 256 / 256 ≡ n / 65536 = omega arith in rw upper refl
 
 -- a signed number
 pub bytes-bits : (z : ℤ) → SFits w32 z →

@@ -1,9 +1,9 @@
 -- What is known of a file to which none of the refusals 11 to 16 applies.
 use Prim.Native.Nat.{ℕ, ◌+◌, ◌*◌, ◌≤◌}
-use mathlib.Core.Bool.{false}
+use mathlib.Core.Bool.{Bool, false}
 use mathlib.Core.List.{List}
 use mathlib.Core.Option.{none}
-use mathlib.Core.Path.{◌≡◌, refl}
+use mathlib.Core.Path.{◌≡◌, refl, sym, ◌∙◌}
 use borrow.Author.Tests.{ltb-false, le-ltb, eqb-true, not-false}
 use lib.ListN.{length}
 use Rattle.facts.proofs.Tests.{or-false→both, one-to-most}
@@ -19,6 +19,11 @@ pub record WholeFile (file : List ℕ) : Type 0 where
   pub back : distance file ≡ 8 * slots file
   pub there : 16 + 8 * slots file ≤ length file
 
+-- b is the test of refusal 11
+pub long-enough : (file : List ℕ) (b : Bool) → b ≡ wrong_size file → b ≡ false → 16 ≤ length file
+unfolding wrong_size
+long-enough file b is e = ltb-false _ _ (or-false→both _ _ (sym is ∙ e)).0
+
 pub sized : (file : List ℕ) → 16 ≤ length file → length file ≤ 4096 → false ≡ wrong_size file
 unfolding wrong_size
 sized file long short = rw (le-ltb (length file) 16 long, le-ltb 4096 (length file) short) refl
@@ -27,7 +32,7 @@ sized file long short = rw (le-ltb (length file) 16 long, le-ltb 4096 (length fi
 pub ruleset tests = (rows, sized)
 
 pub pass→whole : (file : List ℕ) → file_refusal file ≡ none → WholeFile file
-unfolding file_refusal wrong_size wrong_end wrong_form wrong_slots wrong_distance records_missing
+unfolding file_refusal wrong_end wrong_form wrong_slots wrong_distance records_missing
 pass→whole file e =
     let (size, e) = first-none-row _ _ _ e in
     let (end, e) = first-none-row _ _ _ e in
@@ -36,7 +41,7 @@ pass→whole file e =
     let (back, e) = first-none-row _ _ _ e in
     let (records, e) = first-none-row _ _ _ e in
     record {
-      long = ltb-false _ _ (or-false→both _ _ size).0;
+      long = long-enough file _ refl size;
       ends =
           let (one, other) = or-false→both _ _ end in
           (eqb-true _ _ (not-false _ one), eqb-true _ _ (not-false _ other));

@@ -45,7 +45,14 @@ impl From<Result<Watch, Refusal>> for StartNumbers {
 
     fn from(started: Result<Watch, Refusal>) -> StartNumbers {
         match started {
-            Ok(watch) => StartNumbers { code: 0, watch },
+            Ok(watch) => {
+                // Field by field: moved whole, a watch is stored in pieces that are slow to read back.
+                let watch = Watch {
+                    k: watch.k,
+                    ..watch
+                };
+                StartNumbers { code: 0, watch }
+            }
             Err(refusal) => StartNumbers {
                 code: refusal.number(),
                 watch: no_watch(),

@@ -1,3 +1,4 @@
 pub mod Allowed
+pub mod JudgeAnswers
 pub mod LegalLoop
 pub mod ScanStep

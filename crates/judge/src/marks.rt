@@ -110,8 +110,14 @@ pub(crate) fn count_marks(marks: &[u8]) -> Counts
     requires { length marks.now ≤ limit }
     ensures { (result.windows ≡ windows marks.now) × (result.covered ≡ covered marks.now) }
 {
-    Counts {
-        windows: marks.iter().filter(|m| **m == 1).count() as u16,
-        covered: marks.iter().filter(|m| **m != 0).count() as u16,
+    let mut seen = Counts {
+        windows: 0,
+        covered: 0,
+    };
+    // In one go, and not as two counts of what a filter lets through, which take longer.
+    for mark in marks {
+        seen.windows += u16::from(*mark == 1);
+        seen.covered += u16::from(*mark != 0);
     }
+    seen
 }

@@ -1,6 +1,7 @@
 -- A row as what comes after a window, from the last slot back to the first, for the loop of `least::after_window`.
 use Prim.Native.Nat.{ℕ, ◌+◌, ◌≤◌, ◌<◌}
 use native.Mathlib.Nat.{le_refl, eq-or-lt_of_le}
+use native.Mathlib.Numerals.{add-one}
 use native.Mathlib.Omega.{arith}
 use mathlib.Core.Bool.{cond}
 use mathlib.Core.List.{List, []}
@@ -20,7 +21,7 @@ use Rattle.requests.specs.Solution.{sentinel}
 use Rattle.least.proofs.InsideLoop.{from-slot}
 use Rattle.sides.specs.Lacks.{Lacks, lacking_before}
 use Rattle.sides.proofs.Lacks.{lacks-nil, lacks-cons, none-lacking}
-use Rattle.least.specs.Rows.{Row, after_from}
+use Rattle.least.specs.Rows.{Row, RowAfter, after_from}
 
 module _ (s : Settings) (classes : List ℕ) where
   abbrev cs : List Class
@@ -28,6 +29,7 @@ module _ (s : Settings) (classes : List ℕ) where
 
   -- what comes after a window, filled from slot i on
   pub record AfterFrom (row after : List ℕ) (lack i : ℕ) : Type 0 where
+    pub inside : i ≤ length classes
     pub wide : length after ≡ places
     pub lacks : Lacks s.shape.settle (drop i cs) lack
     pub counts : (w : ℕ) → Row s cs w row → (j : ℕ) → i ≤ j → j ≤ limit → get_or after j 0 ≡ after_from s cs j w
@@ -39,6 +41,7 @@ module _ (s : Settings) (classes : List ℕ) where
         let none : (j : ℕ) → length classes ≤ j → drop j cs ≡ [] =
         λ j p. drop_of_length-le cs {i = j} (omega (arith, p, length-map classes decode)) in
         record {
+          inside = le_refl _;
           wide = length-replicate {A = ℕ} places 0;
           lacks = rw (none (length classes) (le_refl _)) (lacks-nil s.shape.settle);
           counts = λ w r j p q.
@@ -55,6 +58,7 @@ module _ (s : Settings) (classes : List ℕ) where
         let lacks : Lacks s.shape.settle (drop i cs) lack' =
         rw (from-slot classes i there, is) (lacks-cons s.shape.settle lack _ _ f.lacks) in
         record {
+          inside = omega arith;
           wide = length-set after i v ∙ f.wide;
           lacks = lacks;
           counts = λ w r j p q.
@@ -64,3 +68,7 @@ module _ (s : Settings) (classes : List ℕ) where
               (λ l. get_or-set_other after i j v 0 (omega (arith, l)) ∙ f.counts w r j (omega (arith, l)) q)
               (eq-or-lt_of_le p);
         }
+
+    pub after-end : {after : List ℕ} {lack i : ℕ} → i ≤ 0 → AfterFrom row after lack i → (w : ℕ) →
+        Row s cs w row → RowAfter s cs (w + 1) after
+    after-end e f w r = rw add-one (record { wide = f.wide; counts = λ j l. f.counts w r j (omega arith) l })

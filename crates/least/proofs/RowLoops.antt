@@ -1,6 +1,6 @@
 -- Rows, filled from the last slot back to the first, the window counts that they rule out, and the thrift.
 use Prim.Native.Nat.{ℕ, zero, suc, ◌+◌, ◌≤◌, ◌<◌, min}
-use native.Mathlib.Nat.{eq-or-lt_of_le}
+use native.Mathlib.Nat.{le_refl, eq-or-lt_of_le}
 use native.Mathlib.Numerals.{add-one}
 use native.Mathlib.Omega.{arith}
 use mathlib.Core.Bool.{Bool, true, false, cond}
@@ -9,8 +9,9 @@ use mathlib.Core.Logic.{◌⊎◌, inl, inr, ⊎_elim}
 use mathlib.Core.Path.{◌≡◌, refl, sym, ap, subst, ◌∙◌}
 use borrow.Author.Tests.{lt-ltb, le-ltb, ltb-true, ltb-false}
 use lib.Dec.{ltb}
-use lib.ListN.{length, drop, get_or, replicate, drop_of_length-le, length-map, length-replicate}
+use lib.ListN.{length, drop, get_or, set, replicate, drop_of_length-le, length-map, length-set, length-replicate}
 use lib.ListN.{get_or-replicate}
+use lib.Seq.{get_or-set_same, get_or-set_other}
 use mir.Val.{bool_byte}
 use Rattle.rule.specs.Ranges.{Class}
 use Rattle.settings.specs.declared.Settings.{Settings}
@@ -61,6 +62,7 @@ module _ (s : Settings) (classes : List ℕ) where
 
   -- a row that is filled from slot i on
   pub record RowFrom (after row : List ℕ) (i : ℕ) : Type 0 where
+    pub inside : i ≤ length classes
     pub wide : length row ≡ places
     pub counts : (w : ℕ) → RowAfter s cs w after → (j : ℕ) → i ≤ j → j ≤ limit → get_or row j 0 ≡ least j w
 
@@ -69,11 +71,32 @@ module _ (s : Settings) (classes : List ℕ) where
     unfolding best
     row-start e =
         record {
+          inside = le_refl _;
           wide = length-replicate {A = ℕ} places 0;
           counts = λ w b j p q.
               let none : drop j cs ≡ [] = drop_of_length-le cs {i = j} (omega (arith, p, length-map classes decode)) in
               rw none (get_or-replicate places j 0 0 (omega arith));
         }
+
+    pub row_step : (row : List ℕ) (i v : ℕ) {j : ℕ} → length classes ≤ limit → j ≡ i + 1 → RowFrom after row j →
+        ((w : ℕ) → RowAfter s cs w after → get_or row (i + 1) 0 ≡ least (i + 1) w → v ≡ least i w) →
+        RowFrom after (set row i v) i
+    row_step row i v e at g is =
+        let f = subst (RowFrom after row) at g in
+        record {
+          inside = omega (arith, f.inside);
+          wide = length-set row i v ∙ f.wide;
+          counts = λ w b j p q.
+              let here = is w b (f.counts w b (i + 1) (le_refl _) (omega (arith, e, f.inside))) in
+              ⊎_elim
+              (λ s. rw (← s) (get_or-set_same row i v 0 (omega (arith, e, f.inside, f.wide)) ∙ here))
+              (λ l. get_or-set_other row i j v 0 (omega (arith, l)) ∙ f.counts w b j (omega (arith, l)) q)
+              (eq-or-lt_of_le p);
+        }
+
+    pub row-end : {row : List ℕ} {i : ℕ} → i ≤ 0 → RowFrom after row i → (w : ℕ) →
+        RowAfter s cs w after → Row s cs w row
+    row-end e f w b = record { wide = f.wide; counts = λ j l. f.counts w b j (omega arith) l }
 
   abbrev c : ℕ
   c = s.covered.most

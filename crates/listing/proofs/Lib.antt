@@ -3,4 +3,5 @@ pub mod Decimals
 mod Fields
 mod Lengths
 mod Numerals
+mod Signs
 mod SlotLinesLoop

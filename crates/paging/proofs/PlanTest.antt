@@ -3,11 +3,12 @@ use Prim.Native.Nat.{ℕ}
 use mathlib.Core.Bool.{Bool, true, false, cond}
 use mathlib.Core.List.{List}
 use mathlib.Core.Option.{none}
-use mathlib.Core.Path.{◌≡◌, refl, ap, ◌∙◌}
+use mathlib.Core.Path.{◌≡◌, refl, sym, ap, ◌∙◌}
 use lib.IntN.{ℤ}
 use lib.ListN.{length}
 use Rattle.judge.specs.Judgment.{YesOrNo, yes, no, says, allowed, judge_refusal, judgment}
 use Rattle.refusals.specs.Answer.{Answer, refuses, gives}
+use Rattle.refusals.specs.declared.Refusal.{Refusal}
 use Rattle.requests.specs.Request.{paired}
 use Rattle.rule.specs.Ranges.{ends_for}
 use Rattle.settings.proofs.Accepted.{differs_false}
@@ -35,3 +36,21 @@ plan-is-yes s los his ms loads pass width marked chosen =
     by : (w c : ℕ) (b : Bool) → yes? (gives (cond b (says true w c) (says false 0 0))) ≡ b
     by w c true = refl
     by w c false = refl
+
+module _ (s : Settings) (los his : List ℤ) (ms : List ℕ) (loads : List ℤ) (v : Answer YesOrNo)
+    (pass : refusal (length los) false s ≡ none) (width : length his ≡ length los) (marked : length ms ≡ length los)
+    (chosen : loads ≡ ends_for (paired los his) ms) (answers : v ≡ judgment s loads ms) where
+  by-answer : yes? v ≡ is_plan s los his ms
+  by-answer = ap yes? answers ∙ plan-is-yes s los his ms loads pass width marked chosen
+
+  pub yes-plan : (w c : ℕ) → v ≡ gives (says true w c) → true ≡ is_plan s los his ms
+  yes-plan w c e = sym (ap yes? e) ∙ by-answer
+
+  not_yes : yes? v ≡ false → false ≡ is_plan s los his ms
+  not_yes e = sym e ∙ by-answer
+
+  pub no_plan : v ≡ gives no → false ≡ is_plan s los his ms
+  no_plan e = not_yes (ap yes? e)
+
+  pub refused-plan : (r : Refusal) → v ≡ refuses r → false ≡ is_plan s los his ms
+  refused-plan r e = not_yes (ap yes? e)

@@ -9,6 +9,10 @@ use Rattle.requests.specs.Promise.{Outcome, Keeps}
 use Rattle.requests.specs.Request.{request_of}
 use Rattle.settings.specs.Refusals.{limit}
 
+-- how many bytes of standard input are held at most
+abbrev pub held_bytes : ℕ
+held_bytes = 4097
+
 -- the buffer holds the whole text of an outcome of which P holds, and `end` is where the text ends
 pub record Printed (P : Outcome → Type 0) (before after : List ℕ) (end : ℕ) : Type 0 where
   pub outcome : Outcome

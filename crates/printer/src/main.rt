@@ -1,18 +1,20 @@
 // The plan printer: reads one form 1 file from standard input and writes its plan to standard output.
 #![tactic(auto)]
 
-ghost use Rattle.std.specs.Prelude.{◌≤◌, length};
+ghost use Rattle.std.specs.Prelude.{◌≡◌, ◌≤◌, length};
+ghost use Rattle.arrayvec.specs.ArrayVec.{array_vec_len};
 ghost use Rattle.settings.specs.Refusals.{limit};
 ghost use Rattle.requests.specs.Request.{request_of};
 ghost use Rattle.listing.specs.Text.{max_length};
-ghost use Rattle.printer.specs.Printed.{Printed, OfFile, loads, marks as Printed·marks};
+ghost use Rattle.printer.specs.declared.TheConstants.{HELD_BYTES};
+ghost use Rattle.printer.specs.Printed.{held_bytes, Printed, OfFile, loads, marks as Printed·marks};
 ghost use Rattle.requests.specs.Promise.{Keeps};
 
 use arrayvec::ArrayVec;
 use card::{Header, read};
 use filter::filter;
 use settings::{LIMIT, Settings};
-use std::io::{self, Read};
+use std::io::Read;
 
 // How many bytes of a file are held: one more than a file may have, so that a longer one is refused.
 const HELD_BYTES: usize = 4097;
@@ -21,18 +23,37 @@ const HELD_BYTES: usize = 4097;
 const MAX_LENGTH: usize = 53 + 32 * LIMIT;
 
 fn main(rt: HostRuntime) {
-    let file = read_input(rt.stdin());
+    let file = read_input(&mut rt.stdin());
     // An array with a length that comes beside, as the contract of `print` has it.
     let mut text = [0; MAX_LENGTH];
     let length = print(&file, &mut text);
     write_output(&rt, &text[..length]);
 }
 
-// Reads an input up to its end, or as much as is held. A read that fails counts as the end.
-fn read_input(from: impl Read + Drop) -> ArrayVec<u8, HELD_BYTES> {
-    let mut file = ArrayVec::new();
-    let _ = io::copy(&mut from.take(HELD_BYTES as u64), &mut file);
+// Reads an input up to its end, or as much as is held.
+fn read_input(from: &mut impl Read) -> ArrayVec<u8, HELD_BYTES>
+    ensures capacity { HELD_BYTES ≡ held_bytes }
+    ensures size { array_vec_len result ≤ held_bytes }
+{
+    let mut file = ArrayVec::from([0; HELD_BYTES]);
+    let size = read_full(from, &mut file);
+    file.truncate(size);
     file
+}
+
+// Reads until the slice is full, the input ends or a read fails, and gives how many bytes it put at the slice's start.
+// No `io::copy`, which reads again where a signal interrupted it.
+fn read_full(from: &mut impl Read, out: &mut [u8]) -> usize
+    ensures { result ≤ length out.new }
+{
+    let mut size = 0;
+    while size < out.len() {
+        match from.read(&mut out[size..]) {
+            Ok(0) | Err(_) => break,
+            Ok(n) => size += n,
+        }
+    }
+    size
 }
 
 // Writes to standard output; where that does not take all of it, says so on standard error.

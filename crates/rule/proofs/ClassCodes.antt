@@ -1,13 +1,16 @@
 -- Classes as bytes: what the tests of a byte say of its class.
-use Prim.Native.Nat.{ℕ}
+use Prim.Native.Nat.{ℕ, ◌<◌}
 use mathlib.Core.Bool.{Bool, true, false, cond}
-use mathlib.Core.Path.{◌≡◌, refl}
+use mathlib.Core.List.{List}
+use mathlib.Core.Path.{◌≡◌, refl, ap, ◌∙◌}
 use borrow.Author.Tests.{eq-eqb, ne_eqb}
 use lib.Dec.{eqb}
+use lib.ListN.{take, get_or, get_or-map}
+use lib.Seq.{get_or-take}
 use Rattle.facts.proofs.Tests.{rules}
 use Rattle.rule.specs.Ranges.{Class, under_only, over_only, either, allows}
 use Rattle.rule.specs.Rule.{goes_with}
-use Rattle.rule.specs.ClassCodes.{code, decode}
+use Rattle.rule.specs.ClassCodes.{code, decode, decode_all}
 
 -- the byte of a class decodes to that class
 pub decode-code : (c : Class) → decode (code c) ≡ c
@@ -54,5 +57,11 @@ module _ (m : ℕ) where
   pub cannot-be-uncovered : m ≡ 1 → allows (decode m) 0 ≡ false
   unfolding allows goes_with
   cannot-be-uncovered e = rw (decode-1 e) refl
+
+-- the class of a slot, from its byte
+pub decode_all-at : (codes : List ℕ) (n i : ℕ) → i < n →
+    get_or (decode_all (take n codes)) i under_only ≡ decode (get_or codes i 0)
+unfolding decode
+decode_all-at codes n i e = get_or-map decode (take n codes) i 0 ∙ ap decode (get_or-take n codes i 0 e)
 
 pub ruleset class-codes = (can-be-over, cannot-be-over, can-be-uncovered, cannot-be-uncovered, rules)

@@ -11,3 +11,4 @@ pub mod NoWindows
 pub mod LegalFrom
 pub mod Plan
 pub mod Ranges
+pub mod Tally

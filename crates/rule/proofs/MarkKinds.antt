@@ -34,9 +34,17 @@ module _ (p m : ℕ) where
   unfolding follows
   inside-not-after-0 hp hm = simp (lt-leb m 1, lt-leb 1 p (omega arith), and-false)
 
+  pub outside-not-after-3 : 3 ≤ p → m ≤ 1 → false ≡ follows p m
+  unfolding follows
+  outside-not-after-3 hp hm = simp (lt-leb p 2, lt-leb 2 m (omega arith), and-false)
+
   pub above-3-not-after : 4 ≤ m → false ≡ follows p m
   unfolding follows
   above-3-not-after hm = simp (lt-leb m 1 (omega arith), lt-leb m 3, and-false)
+
+  pub not-after-above-3 : 4 ≤ p → false ≡ follows p m
+  unfolding follows
+  not-after-above-3 hp = simp (lt-leb p 2 (omega arith), lt-leb p 3, and-false)
 
 -- a byte above 3 may follow no byte
 pub above-3-follows-none : {X : Type 0} (p : ℕ) {m : ℕ} → 4 ≤ m → follows p m ≡ true → X

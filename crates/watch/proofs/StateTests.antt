@@ -64,3 +64,11 @@ module _ {w : Watch} (fits : SFits w32 w.k) (accepted : start_refusal w.len w.h 
     (λ f. phase→reached (inr (active.0 f))),
     λ re. active.1 (⊎_elim (λ i. absurd (true≢false (sym (idle.1 i) ∙ e))) (λ a. a) (reached→tested w re).phase),
   )
+
+module _ {w : Watch} (fits : SFits w32 w.k) (t : Bounded w)
+    (opens : (w.windows ≡ 0) ⊎ (over w.k highest ≡ true)) where
+  pub idle-iff-reached : {b : Bool} → w.room ≡ 0 → (b ≡ true) ↔ Idle w → (b ≡ true) ↔ Reached w
+  idle-iff-reached no-slots is = (
+    λ e. phase→reached fits t.accepted t.few opens is (inl (is.0 e)),
+    λ re. is.1 (⊎_elim (λ i. i) (λ a. absurd (omega (arith, a.slots))) (reached→tested w re).phase),
+  )

@@ -5,7 +5,7 @@ use mathlib.Core.List.{List, [], ◌∷◌, flat_map}
 use mathlib.Core.Path.{◌≡◌, refl}
 use lib.IntN.{ℤ}
 use lib.ListN.{length}
-use Rattle.buffer.proofs.Written.{LeftToWrite, left_step, written-nil, written-length}
+use Rattle.buffer.proofs.Written.{LeftToWrite, left-start, left_step, written-nil, written-length}
 use Rattle.buffer.specs.Written.{Written}
 use Rattle.rule.specs.Ranges.{range}
 use Rattle.form1.specs.Layout.{record_bytes}
@@ -30,6 +30,9 @@ none-high (lo ∷ los) [] e = refl
 none-high (lo ∷ los) (hi ∷ his) e = absurd (omega arith)
 
 module _ {los his : List ℤ} {before : List ℕ} where
+  pub records-start : RecordsLeft los his before los his before 0
+  records-start = record { inside = omega arith; left = left-start }
+
   pub records-step : {lo hi : ℤ} {los' his' : List ℤ} {out after : List ℕ} {next end : ℕ} →
       RecordsLeft los his before (lo ∷ los') (hi ∷ his') out next →
       Written (record_bytes (range lo hi)) next out after end →

@@ -1,6 +1,6 @@
 -- `filter::plan` meets its contract: what the called functions gave, taken together (`PlanAnswers`).
 use native.Mathlib.Omega.{arith}
-use mathlib.Core.Path.{◌≡◌, sym}
+use mathlib.Core.Path.{◌≡◌, refl, sym}
 use lib.ListN.{take}
 use lib.Seq.{take_all}
 use mir.Facts.{to_z-of_z}
@@ -41,16 +41,26 @@ slice_bounds-codes-end c =
     let p = (goal.at.slice_bounds-codes-end c).After-classify-codes in
     omega (arith, (formed-iff.0 (well p)).pass.slots.1, wide _ (well p) _ (codes p))
 
-pub slice_bounds-slots-end : goal.slice_bounds-slots-end
-slice_bounds-slots-end c =
-    let p = (goal.at.slice_bounds-slots-end c).After-classify-codes in
+pub slice_bounds-least_counts-end : goal.slice_bounds-least_counts-end
+slice_bounds-least_counts-end c =
+    let p = (goal.at.slice_bounds-least_counts-end c).After-classify-codes in
     sym (whole _ (well p) _ (codes p))
 
-pub invariant_of-slots : goal.invariant_of-slots
-invariant_of-slots c =
-    let p = (goal.at.invariant_of-slots c).After-classify-codes in
+pub slice_bounds-codes-end-2 : goal.slice_bounds-codes-end-2
+slice_bounds-codes-end-2 c =
+    let p = (goal.at.slice_bounds-codes-end-2 c).After-classify-codes in
+    omega (arith, (formed-iff.0 (well p)).pass.slots.1, wide _ (well p) _ (codes p))
+
+pub slice_bounds-draw-end : goal.slice_bounds-draw-end
+slice_bounds-draw-end c =
+    let p = (goal.at.slice_bounds-draw-end c).After-classify-codes in
+    sym (whole _ (well p) _ (codes p))
+
+pub invariant_of-narrow : goal.invariant_of-narrow
+invariant_of-narrow c =
+    let p = (goal.at.invariant_of-narrow c).After-classify-codes in
     let f = formed-iff.0 (well p) in
-    record { few = whole-short _ (well p) _ (codes p); long = f.pass.length.0 }
+    record { few = f.pass.slots.1; long = f.pass.length.0 }
 
 -- the least counts: `least_counts` reads every slot of the request
 counts : (p : After-classify-codes) (least : LeastCounts) →
@@ -68,7 +78,7 @@ pub narrow-requires : goal.narrow-requires
 narrow-requires c =
     let p = (goal.at.narrow-requires c).After-classify-codes in
     let f = formed-iff.0 (well p) in
-    (sym (whole _ (well p) _ (codes p)), f.width, by_bytes p)
+    (refl, f.width, by_bytes p)
 
 pub returns : goal.returns
 returns c =

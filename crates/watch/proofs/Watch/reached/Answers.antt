@@ -12,7 +12,9 @@ use Rattle.settings.specs.Refusals.{limit, shape_refusal}
 use Rattle.rule.specs.declared.Shape.{Shape}
 use Rattle.watch.proofs.ReachedIsTested.{reached→tested}
 use Rattle.watch.proofs.StateTests.{windows-le-taken, idle-reached, active-iff-reached}
+use Rattle.watch.specs.Tested.{Bounded}
 use Rattle.watch.proofs.Watch.reached.Goals as goal
+use Rattle.watch.proofs.Watch.reached.Goals.{Else-self}
 
 -- a check that gives no refusal is one that no row refuses
 passes : {A : Type 0} (a : Answer A) → (is_err a ≡ false) ↔ (refusal_of a ≡ none)
@@ -38,14 +40,22 @@ pub returns-then-not-may_open : goal.returns-then-not-may_open
 returns-then-not-may_open c =
     false-iff (λ re. true≢false (sym (c.may_open.ensures.1 (reached→tested _ re).opens) ∙ c.if-not-may_open.true))
 
+bounded : (c : Else-self) → Bounded c.args.self
+bounded c =
+    record {
+      accepted = (accepted-iff _ c.shape.ensures c.check_shape.ensures c.is_err.ensures.value).0 c.if-is_err.false;
+      counted = c.if-self.false;
+      few = c.if-self-gt-MAX_TAKEN.false;
+    }
+
 pub returns-then-idle : goal.returns-then-idle
 returns-then-idle c =
-    let accepted = accepted-iff _ c.shape.ensures c.check_shape.ensures c.is_err.ensures.value in
-    idle-reached (search rules) (accepted.0 c.if-is_err.false) (omega arith) (c.may_open.ensures.0 c.if-not-may_open.false)
+    let small = bounded (goal.at.returns-then-idle c).Else-self in
+    idle-reached (search rules) small.accepted small.few (c.may_open.ensures.0 c.if-not-may_open.false)
     c.idle.ensures c.if-idle.true
 
 pub returns-else-idle : goal.returns-else-idle
 returns-else-idle c =
-    let accepted = accepted-iff _ c.shape.ensures c.check_shape.ensures c.is_err.ensures.value in
-    active-iff-reached (search rules) (accepted.0 c.if-is_err.false) (omega arith) (c.may_open.ensures.0 c.if-not-may_open.false)
+    let small = bounded (goal.at.returns-else-idle c).Else-self in
+    active-iff-reached (search rules) small.accepted small.few (c.may_open.ensures.0 c.if-not-may_open.false)
     c.idle.ensures c.if-idle.false c.active.ensures
